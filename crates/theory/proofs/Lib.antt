@@ -1,0 +1,10 @@
+pub mod Step
+pub mod Find
+pub mod Walk
+pub mod Canon
+pub mod Cases
+pub mod Pigeon
+pub mod Small
+pub mod Reach
+pub mod Words
+pub mod Bench

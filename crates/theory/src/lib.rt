@@ -1,0 +1,1 @@
+// The mathematics that every contract cites: definitions in specs/, laws in proofs/. No code.
