@@ -5,11 +5,9 @@ use mathlib.Core.List.{List, [], _∷_, _++_}
 use Prim.Native.Nat.{ℕ, zero, suc, _+_, _*_, _/_, _%_, _^_}
 use lib.Dec.{eqb, ltb}
 use lib.ListN.{length}
-use Rattle.theory.specs.Tree.{Tree, leaf, fork, odd, look, tabulate, op, fix, count, konst}
-use Rattle.theory.specs.Table.{Node, node, Table, at, step, treeOf, says, find, grow, mk, walk, start, canon, meaning}
-
-bit : ℕ → ℕ → Bool
-bit i c = odd (c / 2 ^ i)
+use Rattle.theory.specs.Mask.{odd, bit}
+use Rattle.theory.specs.Tree.{Tree, leaf, fork, look, tabulate, pointwise, cofactor, caseCount, konst}
+use Rattle.theory.specs.Table.{Node, node, Table, at, step, treeOf, says, find, grow, mk, walk, constants, canon, meaning}
 
 xor2 : ℕ → Bool
 xor2 c = not (Bool·beq (bit 0 c) (bit 1 c))

@@ -1,3 +1,4 @@
+pub mod Masks
 pub mod Step
 pub mod Find
 pub mod Walk
@@ -5,6 +6,8 @@ pub mod Canon
 pub mod Cases
 pub mod Pigeon
 pub mod Small
+pub mod Again
+pub mod Levels
 pub mod Reach
 pub mod Words
 pub mod Bench
