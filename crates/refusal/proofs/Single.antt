@@ -7,9 +7,7 @@ use Rattle.refusal.specs.Verdict.{Reply, Verdict, replied, refusalReply,
 use Rattle.refusal.specs.Truth.{truthReply}
 use Rattle.refusal.specs.Counted.{countedReply}
 use Rattle.refusal.specs.declared.Refusal.{Refusal}
-use Rattle.refusal.specs.declared.Truth.{Truth}
 use Rattle.refusal.specs.declared.Truth.the-variants.{Yes, No, Refused}
-use Rattle.refusal.specs.declared.Counted.{Counted}
 use Rattle.refusal.specs.declared.Counted.the-variants as counted
 
 -- different answers have different replies

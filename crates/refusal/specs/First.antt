@@ -1,5 +1,5 @@
 -- The first thing in a row that fails a test: the first malformed clause, the first bad node.
-use mathlib.Core.Bool.{Bool, true, false, cond}
+use mathlib.Core.Bool.{Bool, cond}
 use Prim.Native.Nat.{ℕ, zero, suc}
 use lib.Dec.{ltb}
 

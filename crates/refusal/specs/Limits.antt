@@ -8,3 +8,7 @@ maxMarks = 60
 -- the most nodes of a table, and of a room
 abbrev pub maxNodes : ℕ
 maxNodes = 4096
+
+-- a case is a u64
+abbrev pub caseBits : ℕ
+caseBits = 64

@@ -1,5 +1,5 @@
 -- The reply of `Truth`.
-use mathlib.Core.List.{List, [], _∷_}
+use mathlib.Core.List.{[], _∷_}
 use Rattle.refusal.specs.Verdict.{Reply, gives, refusalReply}
 use Rattle.refusal.specs.declared.Truth.{Truth}
 use Rattle.refusal.specs.declared.Truth.the-variants.{Yes, No, Refused}

@@ -1,20 +1,18 @@
 -- What the core function `join` rests on: levels may be skipped, constants and remembered nodes are answered at once, and a walk only grows the table.
-use mathlib.Core.Path.{_≡_, refl, sym, ap, ap₂, _∙_}
+use mathlib.Core.Path.{_≡_, refl, sym, ap, _∙_}
 use mathlib.Core.Logic.{_↔_}
 use mathlib.Core.Bool.{Bool, true, false, cond}
-use mathlib.Core.List.{List, [], _∷_, _++_}
 use Prim.Native.Nat.{ℕ, zero, suc, _+_, _-_, _≤_, _<_}
 use native.Mathlib.Omega.{arith}
 use native.Mathlib.Nat.{add-zero, zero-add, suc-add}
-use native.Mathlib.Decide.{ℕ-discrete, decLt}
 use lib.Dec.{eqb}
 use lib.ListN.{length, length-append}
 use borrow.Author.Tests.{eq-eqb, ne-eqb}
 use Rattle.theory.specs.Tree.{Tree, leaf, fork, Deep, pointwise, cofactor, konst}
-use Rattle.theory.specs.Table.{Node, node, Table, at, step, treeOf, truth, num, mk, walk, constants, canon, cut, meaning, Ordered, Good}
-use Rattle.theory.proofs.Step.{Stands, step-here, step-skip, stands-step, treeOf-append}
+use Rattle.theory.specs.Table.{node, Table, at, step, treeOf, truth, num, walk, constants, canon, cut, Good}
+use Rattle.theory.proofs.Step.{step-skip}
 use Rattle.theory.proofs.Find.{mk-same}
-use Rattle.theory.proofs.Walk.{Walked, sound, found, alone, stands-old}
+use Rattle.theory.proofs.Walk.{Walked, sound, found}
 use Rattle.theory.proofs.Cases.{pointwise-deep}
 use Rattle.theory.proofs.Canon.{Canonical, canonical}
 use Rattle.theory.proofs.Small.{treeOf-deep}

@@ -1,13 +1,12 @@
 -- The request's starred tables, computed.
 use mathlib.Core.Path.{_≡_, refl}
-use mathlib.Core.Bool.{Bool, true, false, cond, not, _&&_, _||_, Bool·beq}
-use mathlib.Core.List.{List, [], _∷_, _++_}
-use Prim.Native.Nat.{ℕ, zero, suc, _+_, _*_, _/_, _%_, _^_}
-use lib.Dec.{eqb, ltb}
+use mathlib.Core.Bool.{Bool, true, false, not, _&&_, _||_, Bool·beq}
+use mathlib.Core.List.{[], _∷_}
+use Prim.Native.Nat.{ℕ, zero, suc, _/_}
 use lib.ListN.{length}
 use Rattle.theory.specs.Mask.{odd, bit}
-use Rattle.theory.specs.Tree.{Tree, leaf, fork, look, tabulate, pointwise, cofactor, caseCount, konst}
-use Rattle.theory.specs.Table.{Node, node, Table, at, step, treeOf, says, find, grow, mk, walk, constants, canon, meaning}
+use Rattle.theory.specs.Tree.{tabulate}
+use Rattle.theory.specs.Table.{node, step, says, find, grow, mk, walk, canon}
 
 xor2 : ℕ → Bool
 xor2 c = not (Bool·beq (bit 0 c) (bit 1 c))

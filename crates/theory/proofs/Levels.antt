@@ -1,18 +1,14 @@
 -- Levels that a node's mark skips: what node-by-node code needs of level-by-level definitions.
 use mathlib.Core.Path.{_≡_, refl, sym, ap, ap₂, _∙_}
 use mathlib.Core.Bool.{Bool, true, false, cond}
-use Prim.Native.Nat.{ℕ, zero, suc, _+_, _*_, _/_, _%_, _-_, _^_, _≤_, _<_}
+use Prim.Native.Nat.{ℕ, zero, suc, _+_, _*_, _/_, _-_, _^_, _≤_, _<_}
 use native.Mathlib.Omega.{arith}
-use native.Mathlib.Nat.{add-zero, zero-add, suc-add, div-one, pow-zero, div-div-eq-div-mul}
-use native.Mathlib.Decide.{ℕ-discrete}
-use lib.Dec.{eqb}
-use lib.ListN.{length}
+use native.Mathlib.Nat.{add-zero, zero-add, suc-add, div-one, div-div-eq-div-mul}
 use lib.Pow.{pow-add}
 use Rattle.theory.specs.Mask.{odd, bit}
-use Rattle.theory.specs.Tree.{Tree, leaf, fork, Deep, look, caseCount, lifted, konst}
-use Rattle.theory.specs.Table.{Node, node, Table, at, step, treeOf, truth, says, walk, Ordered, Good}
-use Rattle.theory.proofs.Step.{Stands, step-here, step-skip}
-use Rattle.theory.proofs.Walk.{sound}
+use Rattle.theory.specs.Tree.{Tree, Deep, look, caseCount, lifted}
+use Rattle.theory.specs.Table.{node, Table, at, step, treeOf, truth, says, walk, Good}
+use Rattle.theory.proofs.Step.{step-here, step-skip}
 use Rattle.theory.proofs.Again.{walk-skip}
 use Rattle.theory.proofs.Cases.{says-look}
 
@@ -99,3 +95,8 @@ nodeSays-step n s p c h q e k m =
 
     go : (x : ℕ) → n - l ≡ suc x → says (n - l) s l p (c / 2 ^ l) ≡ says x s (suc l) q (c / 2 ^ suc l)
     go x a = ap (λ y. says y s l p (c / 2 ^ l)) a ∙ ap₂ (says x s (suc l)) to (shift-add c l 1 ∙ ap (λ y. c / 2 ^ y) (omega arith))
+
+-- at the bottom a node's number decides
+pub nodeSays-bottom : (n : ℕ) (s : Table) (p c : ℕ) → (at s p) .mark ≡ n → nodeSays n s p c ≡ truth p
+unfolding nodeSays says
+nodeSays-bottom n s p c e = let z : n - (at s p) .mark ≡ 0 = omega arith in rw z

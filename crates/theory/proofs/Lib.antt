@@ -11,3 +11,6 @@ pub mod Levels
 pub mod Reach
 pub mod Words
 pub mod Bench
+pub mod Ordering
+pub mod Reducing
+pub mod Trailing

@@ -1,5 +1,5 @@
 -- Masks: natural numbers read by their bits. A case, the fixed marks of a clause and its values are masks; bit i is mark i.
-use mathlib.Core.Bool.{Bool, true, false, cond}
+use mathlib.Core.Bool.{Bool, cond}
 use Prim.Native.Nat.{ℕ, zero, suc, _+_, _*_, _/_, _%_}
 use lib.Dec.{eqb}
 

@@ -1,0 +1,4 @@
+pub mod NodeLaws
+pub mod InspectLaws
+pub mod CaseLaws
+pub mod AdmissionLaws
