@@ -1,3 +1,4 @@
 pub mod Single
 pub mod Firsts
 pub mod Judged
+pub mod Zeroing

@@ -1,4 +1,8 @@
-// Refusals with the specification's numbers, the answers that several entries share, and the limits. Inner: types and constants only.
+// Refusals with the specification's numbers, the answers that several entries share, the limits, and the zeroing of lent buffers. Inner.
+ghost use mathlib.Core.Path.{_≡_};
+ghost use Prim.Native.Nat.{_≤_};
+ghost use lib.ListN.{length, take};
+ghost use Rattle.refusal.specs.Buffers.{padded};
 
 // A refusal: the specification's number, and the place that it returns with it.
 pub struct Refusal {
@@ -39,4 +43,16 @@ pub enum Truth {
 pub enum Counted {
     Number(u64),
     Refused(Refusal),
+}
+
+// Zeros from start to the end.
+pub fn zero_u64_from(buffer: &mut [u64], start: usize)
+    requires { ⌜ start ≤ length (now buffer) ⌝ }
+    ensures { λ _. ⌜ now (buffer .exit) ≡ padded (take start (now (buffer .entry))) (length (now (buffer .entry))) ⌝ }
+{
+    let mut i = start;
+    while i < buffer.len() {
+        buffer[i] = 0;
+        i += 1;
+    }
 }

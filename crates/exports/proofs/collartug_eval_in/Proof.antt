@@ -1,0 +1,29 @@
+use Rattle.exports.proofs.ReplyLaws.{exported}
+use borrow.Author.Needs.{needs}
+use Rattle.exports.proofs.collartug_eval_in.Statement.{statement}
+use Rattle.exports.proofs.collartug_eval_in.Tie as tie
+use Rattle.exports.proofs.collartug_eval_in.Reads as reads
+use Rattle.exports.proofs.collartug_eval_in.Lts as lts
+use Rattle.exports.proofs.truth_written.Reads as truth-written-reads
+use Rattle.exports.proofs.write_reply.Reads as write-reply-reads
+use Rattle.table.proofs.eval_in.Reads as eval-in-reads
+
+eval-in-requires : tie.Need-eval-in-requires
+eval-in-requires c κs = search needs
+
+truth-written-requires : tie.Need-truth-written-requires
+truth-written-requires c κs = search needs
+
+write-reply-requires : tie.Need-write-reply-requires
+write-reply-requires c κs = search needs
+
+same-length : tie.Need-same-length
+same-length c = search needs
+
+returns : tie.Need-returns
+returns c = exported _ _ _ _ _ _ (c .before .before .write-reply .ensures) (c .before .before .before .truth-written .ensures) (c .before .before .before .before .eval-in .ensures)
+
+pub collartug-eval-in-spec : {M : Type 1} → statement M
+collartug-eval-in-spec =
+    tie.close
+    (tie.spec eval-in-requires truth-written-requires write-reply-requires same-length returns)

@@ -1,0 +1,34 @@
+use Rattle.exports.proofs.ReplyLaws.{exported}
+use borrow.Author.Needs.{needs}
+use Rattle.exports.proofs.collartug_inspect.Statement.{statement}
+use Rattle.exports.proofs.collartug_inspect.Tie as tie
+use Rattle.exports.proofs.collartug_inspect.Reads as reads
+use Rattle.exports.proofs.collartug_inspect.Lts as lts
+use Rattle.exports.proofs.inspection_written.Reads as inspection-written-reads
+use Rattle.exports.proofs.write_reply.Reads as write-reply-reads
+use Rattle.table.proofs.inspect.Reads as inspect-reads
+
+inspect-requires : tie.Need-inspect-requires
+inspect-requires c κs = search needs
+
+inspection-written-requires : tie.Need-inspection-written-requires
+inspection-written-requires c κs = search needs
+
+write-reply-requires : tie.Need-write-reply-requires
+write-reply-requires c κs = search needs
+
+same-length : tie.Need-same-length
+same-length c = search needs
+
+returns : tie.Need-returns
+returns c = exported _ _ _ _ _ _ (c .before .before .write-reply .ensures) (c .before .before .before .inspection-written .ensures) (c .before .before .before .before .inspect .ensures)
+
+pub collartug-inspect-spec : {M : Type 1} → statement M
+collartug-inspect-spec =
+    tie.close
+    (tie.spec
+    inspect-requires
+    inspection-written-requires
+    write-reply-requires
+    same-length
+    returns)

@@ -1,0 +1,13 @@
+use mathlib.Core.Path.{refl}
+use Rattle.refusal.specs.Buffers.{padded}
+use Rattle.exports.proofs.value_written.Statement.{statement}
+use Rattle.exports.proofs.value_written.Tie as tie
+use Rattle.exports.proofs.value_written.Reads as reads
+use Rattle.exports.proofs.value_written.Lts as lts
+
+returns : tie.Need-returns
+unfolding padded
+returns c = refl
+
+pub value-written-spec : {M : Type 1} → statement M
+value-written-spec = tie.close (tie.spec returns)

@@ -1,0 +1,32 @@
+-- What an export leaves in the reply's buffer.
+use mathlib.Core.Bool.{cond}
+use mathlib.Core.List.{List, [], _∷_}
+use Prim.Native.Nat.{ℕ}
+use lib.Dec.{ltb}
+use lib.ListN.{length}
+use Rattle.refusal.specs.Verdict.{Verdict, Reply, replied}
+use Rattle.refusal.specs.Buffers.{padded}
+use Rattle.exports.specs.declared.Written.{Written}
+
+-- the least length of a reply's buffer
+abbrev pub replyLength : ℕ
+replyLength = 64
+
+-- number, place and values
+abbrev pub replyWords : Reply → List ℕ
+replyWords r = r .number ∷ r .place ∷ r .values
+
+-- 1 where the buffer is long enough, else 0
+abbrev pub accepted : List ℕ → ℕ
+accepted before = cond (ltb (length before) replyLength) 0 1
+
+-- the words, then zeros to the end; a buffer too short is left alone
+unfoldable pub bufferWith : List ℕ → List ℕ → List ℕ
+bufferWith words before = cond (ltb (length before) replyLength) before (padded words (length before))
+
+abbrev pub replyAfter : Verdict → List ℕ → List ℕ
+replyAfter v = bufferWith (replyWords (replied v))
+
+-- the first words of a reply, zeros behind its values
+abbrev pub writtenWords : Written → List ℕ
+writtenWords w = w .number ∷ w .place ∷ w .first ∷ w .second ∷ w .third ∷ []
