@@ -8,8 +8,8 @@ ghost use Rattle.refusal.specs.Truth.{truthReply};
 ghost use Rattle.table.specs.Inspection.{inspectionReply, inspects};
 ghost use Rattle.table.specs.Case.{evaluates};
 ghost use Rattle.exports.specs.Exports.{replyWords, accepted, bufferWith, replyAfter, writtenWords};
-
-use refusal::{Refusal, Truth};
+use refusal::Refusal;
+use refusal::Truth;
 use table::Inspection;
 
 // The least length of a reply's buffer.
@@ -90,7 +90,13 @@ pub extern "C" fn collartug_inspect(n: u16, count: usize, bdd: &[u32], reply: &m
 }
 
 #[no_mangle]
-pub extern "C" fn collartug_eval_in(n: u16, count: usize, bdd: &[u32], case: u64, reply: &mut [u64]) -> u64
+pub extern "C" fn collartug_eval_in(
+    n: u16,
+    count: usize,
+    bdd: &[u32],
+    case: u64,
+    reply: &mut [u64],
+) -> u64
     ensures { λ r. ⌜ (r ≡ accepted (now (reply .entry))) × (now (reply .exit) ≡ replyAfter (evaluates n count (now (bdd .entry)) case) (now (reply .entry))) ⌝ }
 {
     write_reply(reply, truth_written(table::eval_in(n, count, bdd, case)))

@@ -10,7 +10,6 @@ pub mod Again
 pub mod Levels
 pub mod Reach
 pub mod Words
-pub mod Bench
 pub mod Ordering
 pub mod Reducing
 pub mod Trailing
