@@ -39,7 +39,7 @@ impl Answer {
     }
 
     /// Number, place and values: the reply up to its zeros.
-    fn reply(&self) -> Vec<u64> {
+    pub fn reply(&self) -> Vec<u64> {
         match self {
             Answer::Refused { number, place } => vec![*number, *place],
             Answer::Given { values, .. } => [0, 0].iter().chain(values).copied().collect(),

@@ -2,11 +2,13 @@
 pub mod answer;
 pub mod convert;
 pub mod corpus;
+pub mod expected;
 pub mod lent;
 pub mod proved;
 pub mod proved_valuations;
 pub mod random;
 pub mod reading;
+pub mod sample;
 pub mod tally;
 
 use std::path::PathBuf;

@@ -3,27 +3,38 @@ use crate::answer::{compare, Answer, Outcome, CLAUSE, LEAST_REPLY, LIMIT, SHORT,
 use crate::proved::Room;
 use std::collections::{BTreeMap, BTreeSet};
 
+/// An entry: the refusals that it can give, and the first values that its answers must have had in a run.
+pub struct Entry {
+    pub name: &'static str,
+    pub refusals: &'static [u64],
+    first_values: &'static [u64],
+}
+
+const fn entry(name: &'static str, refusals: &'static [u64], first_values: &'static [u64]) -> Entry {
+    Entry { name, refusals, first_values }
+}
+
 /// Both answers of a question.
 const EITHER: &[u64] = &[0, 1];
 /// No first value in particular.
 const ANY: &[u64] = &[];
 
-/// Each entry, the refusals that it can give, and the first values that its answers must have had.
-const ENTRIES: [(&str, &[u64], &[u64]); 14] = [
-    ("inspect", &[LIMIT, SHORT, TABLE], &[0, 1, 2, 4095]),
-    ("eval_in", &[LIMIT, SHORT, VARIABLE, TABLE], EITHER),
-    ("empty", &[], ANY),
-    ("is_empty", &[CLAUSE], EITHER),
-    ("cardinality", &[CLAUSE], &[0, 1, 59, 60]),
-    ("last_fixed_variable", &[CLAUSE], EITHER),
-    ("to_values", &[CLAUSE], &[0, 1, 59, 60]),
-    ("from_values", &[VARIABLE], ANY),
-    ("get_value", &[VARIABLE, CLAUSE], EITHER),
-    ("has_value", &[VARIABLE, CLAUSE], EITHER),
-    ("set_value", &[VARIABLE, CLAUSE], ANY),
-    ("unset_value", &[VARIABLE, CLAUSE], ANY),
-    ("extends", &[CLAUSE], EITHER),
-    ("eq", &[CLAUSE], EITHER),
+/// The entries; the sample numbers them in this order, so a new one comes last.
+pub const ENTRIES: [Entry; 14] = [
+    entry("inspect", &[LIMIT, SHORT, TABLE], &[0, 1, 2, 4095]),
+    entry("eval_in", &[LIMIT, SHORT, VARIABLE, TABLE], EITHER),
+    entry("empty", &[], ANY),
+    entry("is_empty", &[CLAUSE], EITHER),
+    entry("cardinality", &[CLAUSE], &[0, 1, 59, 60]),
+    entry("last_fixed_variable", &[CLAUSE], EITHER),
+    entry("to_values", &[CLAUSE], &[0, 1, 59, 60]),
+    entry("from_values", &[VARIABLE], ANY),
+    entry("get_value", &[VARIABLE, CLAUSE], EITHER),
+    entry("has_value", &[VARIABLE, CLAUSE], EITHER),
+    entry("set_value", &[VARIABLE, CLAUSE], ANY),
+    entry("unset_value", &[VARIABLE, CLAUSE], ANY),
+    entry("extends", &[CLAUSE], EITHER),
+    entry("eq", &[CLAUSE], EITHER),
 ];
 
 /// How many first values of an entry are remembered.
@@ -51,15 +62,15 @@ impl Count {
         }
     }
 
-    /// Each of these refusals and no other, and each of these first values, was seen.
-    fn complete(&self, refusals: &[u64], first_values: &[u64]) -> Result<(), String> {
+    /// Each of the entry's refusals and no other, and each of its first values, was seen.
+    fn complete(&self, entry: &Entry) -> Result<(), String> {
         if self.answered == 0 {
             return Err("was never answered".to_string());
         }
-        if !self.refused.keys().eq(refusals.iter()) {
-            return Err(format!("was refused with {:?}, not with {refusals:?}", self.refused.keys()));
+        if !self.refused.keys().eq(entry.refusals) {
+            return Err(format!("was refused with {:?}, not with {:?}", self.refused.keys(), entry.refusals));
         }
-        match first_values.iter().find(|value| !self.first_values.contains(value)) {
+        match entry.first_values.iter().find(|value| !self.first_values.contains(value)) {
             Some(value) => Err(format!("never answered {value}")),
             None => Ok(()),
         }
@@ -116,9 +127,9 @@ impl Tally {
         if total < least {
             return Err(format!("{total} calls were made, at least {least} are wanted"));
         }
-        for (entry, count) in &self.entries {
-            let row = ENTRIES.iter().find(|(name, ..)| name == entry).ok_or(format!("{entry} is no entry"))?;
-            count.complete(row.1, row.2).map_err(|what| format!("{entry} {what}"))?;
+        for (name, count) in &self.entries {
+            let entry = ENTRIES.iter().find(|entry| entry.name == *name).ok_or(format!("{name} is no entry"))?;
+            count.complete(entry).map_err(|what| format!("{name} {what}"))?;
         }
         Ok(())
     }

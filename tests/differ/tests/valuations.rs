@@ -1,11 +1,12 @@
 //! Partial valuations against the Rust's, and their refusals against the specification's words.
 use biodivine_lib_bdd::BddPartialValuation;
 use differ::answer::{compare, compare_unserved, Answer, Outcome, CLAUSE, LEAST_REPLY, VARIABLE};
-use differ::convert::{of_pairs, of_valuation, to_pairs, to_valuation, to_variable};
+use differ::convert::to_variable;
+use differ::expected;
 use differ::proved::Room;
 use differ::proved_valuations as proved;
 use differ::random::Random;
-use differ::reading::{self, Valuation};
+use differ::reading::Valuation;
 use differ::tally::Tally;
 
 const NONE: Valuation = Valuation { fixed: 0, values: 0 };
@@ -14,91 +15,61 @@ const ALL: u64 = (1 << 60) - 1;
 /// Marks around each limit that a mark number, a mask or a word could be cut at.
 const EDGES: [u16; 18] = [0, 1, 31, 32, 33, 58, 59, 60, 61, 62, 63, 64, 65, 255, 256, 32_768, 65_534, 65_535];
 
-/// An entry: its name, the proved call, and what the Rust answers in the specification's numbers.
-type OnOne = (&'static str, fn(Room, Valuation) -> Outcome, fn(&BddPartialValuation) -> Vec<u64>);
-type OnMark = (&'static str, fn(Room, Valuation, u16) -> Outcome, fn(BddPartialValuation, u16) -> Vec<u64>);
-type OnTwo = (&'static str, fn(Room, Valuation, Valuation) -> Outcome, fn(&BddPartialValuation, &BddPartialValuation) -> bool);
+/// An entry: its name, the proved call, and the answer that is wanted.
+type OnOne = (&'static str, fn(Room, Valuation) -> Outcome, fn(Valuation) -> Answer);
+type OnMark = (&'static str, fn(Room, Valuation, u16) -> Outcome, fn(Valuation, u16) -> Answer);
+type OnTwo = (&'static str, fn(Room, Valuation, Valuation) -> Outcome, fn(Valuation, Valuation) -> Answer);
 
 const ON_ONE: [OnOne; 4] = [
-    ("is_empty", proved::is_empty, |v| vec![u64::from(v.is_empty())]),
-    ("cardinality", proved::cardinality, |v| vec![u64::from(v.cardinality())]),
-    ("last_fixed_variable", proved::last_fixed_variable, |v| match v.last_fixed_variable() {
-        Some(mark) => vec![1, mark.to_index() as u64],
-        None => vec![0],
-    }),
-    ("to_values", proved::to_values, |v| {
-        let words = of_pairs(&v.to_values());
-        [&[words.len() as u64], &words[..]].concat()
-    }),
+    ("is_empty", proved::is_empty, expected::is_empty),
+    ("cardinality", proved::cardinality, expected::cardinality),
+    ("last_fixed_variable", proved::last_fixed_variable, expected::last_fixed_variable),
+    ("to_values", proved::to_values, expected::to_values),
 ];
-
 const ON_MARK: [OnMark; 3] = [
-    ("get_value", proved::get_value, |v, id| match v.get_value(to_variable(id)) {
-        Some(value) => vec![1, u64::from(value)],
-        None => vec![0],
-    }),
-    ("has_value", proved::has_value, |v, id| vec![u64::from(v.has_value(to_variable(id)))]),
-    ("unset_value", proved::unset_value, |mut v, id| {
-        v.unset_value(to_variable(id));
-        two_words(&v)
-    }),
+    ("get_value", proved::get_value, expected::get_value),
+    ("has_value", proved::has_value, expected::has_value),
+    ("unset_value", proved::unset_value, expected::unset_value),
 ];
-
-const ON_TWO: [OnTwo; 2] = [("extends", proved::extends, |v, other| v.extends(other)), ("eq", proved::eq, |v, other| v == other)];
-
-fn two_words(v: &BddPartialValuation) -> Vec<u64> {
-    let Valuation { fixed, values } = of_valuation(v);
-    vec![fixed, values]
-}
+const ON_TWO: [OnTwo; 2] = [("extends", proved::extends, expected::extends), ("eq", proved::eq, expected::eq)];
 
 fn check_one(tally: &mut Tally, v: Valuation) {
-    for (entry, call, oracle) in ON_ONE {
-        let want = reading::on_valuation(v, || oracle(&to_valuation(v)));
+    for (entry, call, want) in ON_ONE {
         let got = call(tally.room(), v);
-        tally.judge(entry, &want, &got, || format!("{v:x?}"));
+        tally.judge(entry, &want(v), &got, || format!("{v:x?}"));
     }
 }
 
 fn check_mark(tally: &mut Tally, v: Valuation, id: u16) {
-    for (entry, call, oracle) in ON_MARK {
-        let want = reading::on_valuation_and_mark(v, id, || oracle(to_valuation(v), id));
+    for (entry, call, want) in ON_MARK {
         let got = call(tally.room(), v, id);
-        tally.judge(entry, &want, &got, || format!("{v:x?} mark {id}"));
+        tally.judge(entry, &want(v, id), &got, || format!("{v:x?} mark {id}"));
     }
     for value in [0, 1] {
         check_set(tally, v, id, value);
     }
 }
 
-/// Any number but 0 stands for true.
 fn check_set(tally: &mut Tally, v: Valuation, id: u16, value: u64) {
-    let want = reading::on_valuation_and_mark(v, id, || {
-        let mut made = to_valuation(v);
-        made.set_value(to_variable(id), value != 0);
-        two_words(&made)
-    });
     let got = proved::set_value(tally.room(), v, id, value);
-    tally.judge("set_value", &want, &got, || format!("{v:x?} mark {id} value {value:#x}"));
+    tally.judge("set_value", &expected::set_value(v, id, value), &got, || format!("{v:x?} mark {id} value {value:#x}"));
 }
 
 fn check_two(tally: &mut Tally, v: Valuation, other: Valuation) {
-    for (entry, call, oracle) in ON_TWO {
-        let truth = || vec![u64::from(oracle(&to_valuation(v), &to_valuation(other)))];
-        let want = reading::on_two_valuations(v, other, truth);
+    for (entry, call, want) in ON_TWO {
         let got = call(tally.room(), v, other);
-        tally.judge(entry, &want, &got, || format!("{v:x?} and {other:x?}"));
+        tally.judge(entry, &want(v, other), &got, || format!("{v:x?} and {other:x?}"));
     }
 }
 
 fn check_list(tally: &mut Tally, words: &[u32]) {
-    let want = reading::on_values(words, || two_words(&BddPartialValuation::from_values(&to_pairs(words))));
     let got = proved::from_values(tally.room(), words);
-    tally.judge("from_values", &want, &got, || format!("{words:?}"));
+    tally.judge("from_values", &expected::from_values(words), &got, || format!("{words:?}"));
 }
 
 fn check_empty(tally: &mut Tally) {
     let got = proved::empty(tally.room());
-    tally.judge("empty", &Answer::given(two_words(&BddPartialValuation::empty())), &got, String::new);
+    tally.judge("empty", &expected::empty(), &got, String::new);
 }
 
 /// All 81 valuations of four marks, from the mark `first` up.
