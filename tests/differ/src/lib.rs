@@ -4,6 +4,7 @@ pub mod convert;
 pub mod corpus;
 pub mod expected;
 pub mod lent;
+pub mod names;
 pub mod proved;
 pub mod proved_valuations;
 pub mod random;
