@@ -1,4 +1,17 @@
-//! What the tests share: where the repository stands.
+//! What the tests share: the proved library's calls, the specification read a second time, the oracle's answers in words, and the comparison.
+pub mod answer;
+pub mod convert;
+pub mod corpus;
+pub mod expected;
+pub mod lent;
+pub mod names;
+pub mod proved;
+pub mod proved_valuations;
+pub mod random;
+pub mod reading;
+pub mod sample;
+pub mod tally;
+
 use std::path::PathBuf;
 
 /// The repository's root.

@@ -1,0 +1,134 @@
+//! Tables to try: those that the oracle builds, and ordered ones that nobody reduced.
+use crate::convert::{as_made, to_valuation, to_variable};
+use crate::random::Random;
+use crate::reading::Valuation;
+use biodivine_lib_bdd::{Bdd, BddVariableSet};
+
+/// The most nodes that a call takes.
+pub const MOST_NODES: usize = 4096;
+
+/// What a table was built for, so that the oracle's own answers can be checked too.
+pub enum Meaning {
+    Dnf(Vec<Valuation>),
+    Cnf(Vec<Valuation>),
+    Parity(u64),
+}
+
+impl Meaning {
+    pub fn holds(&self, case: u64) -> bool {
+        let all = |v: &Valuation| case & v.fixed == v.values;
+        let any = |v: &Valuation| case & v.fixed != v.fixed & !v.values;
+        match self {
+            Meaning::Dnf(clauses) => clauses.iter().any(all),
+            Meaning::Cnf(clauses) => clauses.iter().all(any),
+            Meaning::Parity(marks) => (case & marks).count_ones() % 2 == 1,
+        }
+    }
+
+    fn build(&self, n: u16) -> Bdd {
+        let set = BddVariableSet::new_anonymous(n);
+        let each = |clauses: &[Valuation]| clauses.iter().copied().map(to_valuation).collect::<Vec<_>>();
+        match self {
+            Meaning::Dnf(clauses) => set.mk_dnf(&each(clauses)),
+            Meaning::Cnf(clauses) => set.mk_cnf(&each(clauses)),
+            Meaning::Parity(marks) => parity(&set, *marks),
+        }
+    }
+}
+
+fn parity(set: &BddVariableSet, marks: u64) -> Bdd {
+    let literals = (0..set.num_vars()).filter(|mark| marks >> mark & 1 == 1).map(|mark| set.mk_literal(to_variable(mark), true));
+    literals.fold(set.mk_false(), |so_far, literal| so_far.xor(&literal))
+}
+
+/// A table that the oracle built, with its meaning.
+pub struct Built {
+    pub n: u16,
+    pub bdd: Bdd,
+    pub meaning: Meaning,
+}
+
+impl Built {
+    /// None where the table is larger than a call takes.
+    fn new(n: u16, meaning: Meaning) -> Option<Built> {
+        let bdd = meaning.build(n);
+        (bdd.size() <= MOST_NODES).then_some(Built { n, bdd, meaning })
+    }
+
+    /// The words of the table: numbered as the Rust did, and as the specification does.
+    pub fn tables(&self) -> [Vec<u32>; 2] {
+        [as_made(&self.bdd), self.bdd.renumbered()]
+    }
+}
+
+/// A clause over n marks with about `literals` of them fixed.
+pub fn clause(random: &mut Random, n: u16, literals: usize) -> Valuation {
+    let mut fixed = 0;
+    for _ in 0..if n == 0 { 0 } else { literals } {
+        fixed |= 1 << random.below(usize::from(n));
+    }
+    Valuation { fixed, values: random.word() & fixed }
+}
+
+fn clauses(random: &mut Random, n: u16) -> Vec<Valuation> {
+    let (many, literals) = (random.below(14), 1 + random.below(6));
+    (0..many).map(|_| clause(random, n, literals)).collect()
+}
+
+/// Clauses that fix the same few marks, so that the table is dense.
+fn dense(random: &mut Random, n: u16) -> Vec<Valuation> {
+    let fixed = (0..10).fold(0, |fixed, _| fixed | clause(random, n, 1).fixed);
+    (0..random.below(200)).map(|_| Valuation { fixed, values: random.word() & fixed }).collect()
+}
+
+/// For each number of marks: constants, and `rounds` tables of each kind.
+pub fn built(random: &mut Random, rounds: usize) -> Vec<Built> {
+    let mut made = Vec::new();
+    for n in 0..=60 {
+        let empty = Valuation { fixed: 0, values: 0 };
+        let mut meanings = vec![Meaning::Dnf(vec![]), Meaning::Cnf(vec![]), Meaning::Dnf(vec![empty]), Meaning::Cnf(vec![empty])];
+        for _ in 0..rounds {
+            meanings.push(Meaning::Dnf(clauses(random, n)));
+            meanings.push(Meaning::Cnf(clauses(random, n)));
+            meanings.push(Meaning::Dnf(dense(random, n)));
+            meanings.push(Meaning::Parity(random.bits(n)));
+        }
+        made.extend(meanings.into_iter().filter_map(|meaning| Built::new(n, meaning)));
+    }
+    made
+}
+
+/// Tables of more than three thousand nodes: random cases of 16 marks.
+pub fn large(random: &mut Random, many: usize) -> Vec<Built> {
+    let fixed = (1 << 16) - 1;
+    let cases = |random: &mut Random| (0..4000).map(|_| Valuation { fixed, values: random.word() & fixed }).collect();
+    let made: Vec<Built> = (0..many).filter_map(|_| Built::new(16, Meaning::Dnf(cases(random)))).collect();
+    assert!(made.len() == many && made.iter().all(|table| table.bdd.size() > 3000), "not large, or too large");
+    made
+}
+
+/// An ordered table of `count` nodes over n marks, neither reduced nor reachable as a rule. Without marks it has at most two nodes.
+pub fn unreduced(random: &mut Random, n: u16, count: usize) -> Vec<u32> {
+    let marks = u32::from(n);
+    let mut nodes = vec![marks, 0, 0, marks, 1, 1];
+    let count = if n == 0 { count.min(2) } else { count };
+    for i in 2..count {
+        let (low, high) = (link(random, &nodes, i), link(random, &nodes, i));
+        let above = nodes[3 * low].min(nodes[3 * high]) as usize;
+        let near = above.saturating_sub(1 + random.below(3));
+        let mark = if random.coin() { near } else { random.below(above) };
+        nodes.extend([mark as u32, low as u32, high as u32]);
+    }
+    nodes.truncate(3 * count);
+    nodes
+}
+
+/// A node below i with a mark above 0, so that it can have a parent: a late one more often than not.
+fn link(random: &mut Random, nodes: &[u32], i: usize) -> usize {
+    let chosen = if random.coin() { i - 1 - random.below(i.min(4)) } else { random.below(i) };
+    if nodes[3 * chosen] > 0 {
+        chosen
+    } else {
+        random.below(2)
+    }
+}

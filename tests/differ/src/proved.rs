@@ -1,0 +1,37 @@
+//! The proved library's table calls. What a call may touch is lent here, filled with rubbish, and comes back whole.
+use crate::answer::Outcome;
+use crate::lent::{Buffer, Lent};
+
+extern "C" {
+    fn collartug_inspect(n: u16, count: usize, nodes: *const u32, nodes_len: usize, reply: *mut u64, reply_len: usize) -> u64;
+    fn collartug_eval_in(n: u16, count: usize, nodes: *const u32, nodes_len: usize, case: u64, reply: *mut u64, reply_len: usize) -> u64;
+}
+
+/// The reply buffer of one call: how many words it has, and the salt of the rubbish in all lent words.
+#[derive(Clone, Copy, Debug)]
+pub struct Room {
+    pub words: usize,
+    pub salt: u64,
+}
+
+impl Room {
+    /// Makes a call that lends nothing but the reply.
+    pub(crate) fn call(self, call: impl FnOnce(*mut u64, usize) -> u64) -> Outcome {
+        self.call_lending(Vec::new(), |_, reply, len| call(reply, len))
+    }
+
+    /// Makes a call that lends buffers too; it finds them in the order in which they are given.
+    pub(crate) fn call_lending(self, mut lent: Vec<Buffer>, call: impl FnOnce(&mut [Buffer], *mut u64, usize) -> u64) -> Outcome {
+        let mut reply = Lent::new(self.words, self.salt);
+        let returned = call(&mut lent, reply.start(), reply.len());
+        Outcome { returned, reply, lent }
+    }
+}
+
+pub fn inspect(room: Room, n: u16, count: usize, nodes: &[u32]) -> Outcome {
+    room.call(|reply, len| unsafe { collartug_inspect(n, count, nodes.as_ptr(), nodes.len(), reply, len) })
+}
+
+pub fn eval_in(room: Room, n: u16, count: usize, nodes: &[u32], case: u64) -> Outcome {
+    room.call(|reply, len| unsafe { collartug_eval_in(n, count, nodes.as_ptr(), nodes.len(), case, reply, len) })
+}

@@ -1,0 +1,136 @@
+//! Counts the calls of each entry and its refusals, and objects where a refusal that an entry can give was never seen.
+use crate::answer::{compare, Answer, Outcome, CLAUSE, LEAST_REPLY, LIMIT, SHORT, TABLE, VARIABLE};
+use crate::proved::Room;
+use std::collections::{BTreeMap, BTreeSet};
+
+/// An entry: the refusals that it can give, and the first values that its answers must have had in a run.
+pub struct Entry {
+    pub name: &'static str,
+    pub refusals: &'static [u64],
+    first_values: &'static [u64],
+}
+
+const fn entry(name: &'static str, refusals: &'static [u64], first_values: &'static [u64]) -> Entry {
+    Entry { name, refusals, first_values }
+}
+
+/// Both answers of a question.
+const EITHER: &[u64] = &[0, 1];
+/// No first value in particular.
+const ANY: &[u64] = &[];
+
+/// The entries; the sample numbers them in this order, so a new one comes last.
+pub const ENTRIES: [Entry; 14] = [
+    entry("inspect", &[LIMIT, SHORT, TABLE], &[0, 1, 2, 4095]),
+    entry("eval_in", &[LIMIT, SHORT, VARIABLE, TABLE], EITHER),
+    entry("empty", &[], ANY),
+    entry("is_empty", &[CLAUSE], EITHER),
+    entry("cardinality", &[CLAUSE], &[0, 1, 59, 60]),
+    entry("last_fixed_variable", &[CLAUSE], EITHER),
+    entry("to_values", &[CLAUSE], &[0, 1, 59, 60]),
+    entry("from_values", &[VARIABLE], ANY),
+    entry("get_value", &[VARIABLE, CLAUSE], EITHER),
+    entry("has_value", &[VARIABLE, CLAUSE], EITHER),
+    entry("set_value", &[VARIABLE, CLAUSE], ANY),
+    entry("unset_value", &[VARIABLE, CLAUSE], ANY),
+    entry("extends", &[CLAUSE], EITHER),
+    entry("eq", &[CLAUSE], EITHER),
+];
+
+/// How many first values of an entry are remembered.
+const REMEMBERED: usize = 5000;
+
+#[derive(Default)]
+struct Count {
+    calls: u64,
+    answered: u64,
+    first_values: BTreeSet<u64>,
+    refused: BTreeMap<u64, u64>,
+}
+
+impl Count {
+    fn add(&mut self, want: &Answer) {
+        self.calls += 1;
+        match want {
+            Answer::Refused { number, .. } => *self.refused.entry(*number).or_default() += 1,
+            Answer::Given { values, .. } => {
+                self.answered += 1;
+                if self.first_values.len() < REMEMBERED {
+                    self.first_values.extend(values.first());
+                }
+            }
+        }
+    }
+
+    /// Each of the entry's refusals and no other, and each of its first values, was seen.
+    fn complete(&self, entry: &Entry) -> Result<(), String> {
+        if self.answered == 0 {
+            return Err("was never answered".to_string());
+        }
+        if !self.refused.keys().eq(entry.refusals) {
+            return Err(format!("was refused with {:?}, not with {:?}", self.refused.keys(), entry.refusals));
+        }
+        match entry.first_values.iter().find(|value| !self.first_values.contains(value)) {
+            Some(value) => Err(format!("never answered {value}")),
+            None => Ok(()),
+        }
+    }
+}
+
+/// The calls of one test.
+#[derive(Default)]
+pub struct Tally {
+    rooms: u64,
+    entries: BTreeMap<&'static str, Count>,
+}
+
+impl Tally {
+    pub fn new() -> Tally {
+        Tally::default()
+    }
+
+    /// The next call's reply: of 64 to 80 words, in turn, with other rubbish each time.
+    pub fn room(&mut self) -> Room {
+        self.rooms += 1;
+        Room { words: LEAST_REPLY + (self.rooms % 17) as usize, salt: self.rooms << 20 }
+    }
+
+    /// Counts a call and compares it, and stops the test where it differs; `input` describes the call.
+    pub fn judge(&mut self, entry: &'static str, want: &Answer, got: &Outcome, input: impl FnOnce() -> String) {
+        if let Err(what) = self.verdict(entry, want, got) {
+            panic!("{what}\n  input: {}\n  wanted: {want:?}\n  reply: {:?}", input(), got.reply.words());
+        }
+    }
+
+    /// Counts a call and compares it.
+    pub fn verdict(&mut self, entry: &'static str, want: &Answer, got: &Outcome) -> Result<(), String> {
+        self.entries.entry(entry).or_default().add(want);
+        compare(want, got).map_err(|what| format!("{entry}: {what}"))
+    }
+
+    /// Prints the counts; objects to too few calls, and to an answer or a refusal never seen.
+    pub fn finish(&self, least: u64) {
+        for (entry, count) in &self.entries {
+            println!("calls {entry} {} answered {}", count.calls, count.answered);
+            for (number, times) in &count.refused {
+                println!("refused {entry} {number} {times}");
+            }
+        }
+        if let Err(what) = self.complete(least) {
+            panic!("{what}");
+        }
+    }
+
+    /// Enough calls were made, and each entry called has shown every kind of answer that it has.
+    pub fn complete(&self, least: u64) -> Result<(), String> {
+        let total: u64 = self.entries.values().map(|count| count.calls).sum();
+        if total < least {
+            return Err(format!("{total} calls were made, at least {least} are wanted"));
+        }
+        for (name, count) in &self.entries {
+            let entry = ENTRIES.iter().find(|entry| entry.name == *name).ok_or(format!("{name} is no entry"))?;
+            count.complete(entry).map_err(|what| format!("{name} {what}"))?;
+        }
+        Ok(())
+    }
+}
