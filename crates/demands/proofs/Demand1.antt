@@ -1,23 +1,22 @@
 -- Demand 1. Any words may reach any entry. Bad input gets its refusal in the order of checking; an inspection refusal changes no buffer, a room refusal
 -- leaves output and work memory zero. Each promise leaves one possible answer.
-use mathlib.Core.Path.{_≡_, refl, sym, ap, _∙_}
+use mathlib.Core.Path.{_≡_, refl}
 use mathlib.Core.Logic.{_↔_}
-use mathlib.Core.Bool.{Bool, true, false}
+use mathlib.Core.Bool.{true, false}
 use mathlib.Core.List.{List, [], _∷_, _++_}
 use Prim.Native.Nat.{ℕ, _*_, _-_, _≤_, _<_}
 use native.Mathlib.Omega.{arith}
 use lib.ListN.{length, getD, replicate}
 use Rattle.theory.specs.Table.{nodeOk, Ordered}
-use Rattle.theory.specs.Words.{stride, nodes}
+use Rattle.theory.specs.Words.{nodes}
 use Rattle.refusal.specs.Number.{LIMIT, SHORT, VARIABLE, CLAUSE, TABLE, REDUCED, NODES, CLAUSES, SHEET}
-use Rattle.refusal.specs.Limits.{maxMarks, maxNodes}
 use Rattle.refusal.specs.Buffers.{padded, zeroing, bufferAfter, outputAfter, workAfter}
-use Rattle.refusal.specs.Verdict.{Verdict, refused, answered, replied}
+use Rattle.refusal.specs.Verdict.{refused, answered, replied}
 use Rattle.refusal.specs.Truth.{truthReply}
 use Rattle.refusal.specs.declared.Truth.{Truth}
 use Rattle.refusal.proofs.Single.{single, truth-one}
 use Rattle.table.specs.declared.Inspection.{Inspection}
-use Rattle.table.specs.Inspection.{inspectionReply, inspects, firstBad, SoundTable}
+use Rattle.table.specs.Inspection.{inspectionReply, inspects, SoundTable}
 use Rattle.table.specs.Case.{evaluates}
 use Rattle.table.proofs.InspectionSingle.{inspection-one}
 use Rattle.table.proofs.Inspected.{inspects-sound, sound-inspects, table-place}

@@ -1,19 +1,17 @@
 -- Demand 2. What a table says of a case.
-use mathlib.Core.Path.{_≡_, refl, sym, ap, _∙_}
-use mathlib.Core.Bool.{Bool, true, false}
+use mathlib.Core.Path.{_≡_, sym, ap, _∙_}
 use mathlib.Core.List.{List, [], _∷_}
-use Prim.Native.Nat.{ℕ, _+_, _*_, _-_, _^_, _≤_, _<_}
-use native.Mathlib.Omega.{arith}
+use Prim.Native.Nat.{ℕ, _-_, _^_, _<_}
 use lib.ListN.{length}
 use Rattle.theory.specs.Tree.{Tree, Deep, look, caseCount, tally}
 use Rattle.theory.specs.Table.{Table, num, says, follow, truth, meaning, canon, treeOf}
 use Rattle.theory.specs.Words.{nodes}
-use Rattle.theory.proofs.Cases.{says-look, says-follow, look-ext, caseCount-tally}
+use Rattle.theory.proofs.Cases.{says-look, says-follow, caseCount-tally}
 use Rattle.theory.proofs.Canon.{canon-means}
 use Rattle.theory.proofs.Small.{treeOf-deep}
 use Rattle.refusal.specs.Verdict.{answered}
 use Rattle.table.specs.Inspection.{SoundTable}
-use Rattle.table.specs.Case.{tableSays, evaluates}
+use Rattle.table.specs.Case.{evaluates}
 use Rattle.table.proofs.Evaluated.{sound-evaluates}
 
 -- evaluation answers what the table means at the case

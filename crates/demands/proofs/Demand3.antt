@@ -1,14 +1,12 @@
 -- Demand 3. A canonical table is smallest, reduced, and the one table of its meaning.
-use mathlib.Core.Path.{_≡_, refl, sym, ap, _∙_}
+use mathlib.Core.Path.{_≡_, ap}
 use mathlib.Core.Logic.{_↔_}
-use mathlib.Core.Bool.{Bool, true, false}
-use mathlib.Core.List.{List, [], _∷_}
 use Prim.Native.Nat.{ℕ, _≤_, _<_, _^_}
 use lib.ListN.{length}
 use Rattle.theory.specs.Tree.{Tree, Deep, look}
 use Rattle.theory.specs.Table.{Table, meaning, canon, Ordered, Reduced, treeOf}
 use Rattle.theory.proofs.Cases.{look-ext}
-use Rattle.theory.proofs.Canon.{canon-means, canon-injective}
+use Rattle.theory.proofs.Canon.{canon-injective}
 use Rattle.theory.proofs.Reducing.{canon-reduced}
 use Rattle.theory.proofs.Small.{small, treeOf-deep}
 

@@ -4,8 +4,11 @@ use mathlib.Core.Logic.{_⊎_, inl, inr}
 use mathlib.Core.Bool.{Bool, true, false, cond, _&&_}
 use mathlib.Core.List.{List, [], _∷_}
 use Prim.Native.Nat.{ℕ}
+use native.Mathlib.Omega.{arith}
 use lib.Dec.{eqb}
+use borrow.Author.Tests.{eqb-true}
 use Rattle.refusal.specs.Number.{order}
+use Rattle.refusal.specs.Buffers.{zeroing}
 use Rattle.refusal.specs.Verdict.{Verdict, refused, answered, Finding, firstOf, tried, judged, replied, refusedWith, gives, refusalReply}
 use Rattle.refusal.specs.declared.Refusal.{Refusal}
 use Rattle.refusal.proofs.Single.{no-values}
@@ -61,3 +64,39 @@ pub passes : (b : Bool) (k p a : ℕ) (more : List ℕ) (v : Verdict) → gives 
 unfolding replied
 passes true k p a more v e = no-values (record { number = k; place = p }) a more (sym e)
 passes false k p a more v e = (refl, e)
+
+-- no finding has a number that zeroes buffers: those of an admission
+unfoldable pub Quiet : List Finding → Type 0
+Quiet [] = Unit {0}
+Quiet (f ∷ fs) = (zeroing (f .number) ≡ false) × Quiet fs
+
+module _ (vs : List ℕ) (outs : List (List ℕ)) (k p : ℕ) where
+  -- a verdict that is refused as said only with a number that zeroes nothing
+  abbrev Calm : Verdict → Type 0
+  Calm v = v ≡ refused k p → zeroing k ≡ false
+
+  number-is : (a b q : ℕ) → refused a q ≡ refused b p → a ≡ b
+  number-is a b q e = cc
+
+  first-calm : (m : ℕ) (fs : List Finding) → Quiet fs → (v : Verdict) → Calm v → Calm (firstOf m fs v)
+  unfolding firstOf Quiet
+  first-calm m [] q v c = c
+  first-calm m (f ∷ fs) q v c =
+      (elim (eqb (f .number) m && f .so) as (λ b. eqb (f .number) m && f .so ≡ b → Calm (cond b (refused m (f .place)) (firstOf m fs v))) [
+        | true ↦ λ t e. rw (← (number-is m k (f .place) e), ← (eqb-true (f .number) m (and-left _ _ t))) (q .0)
+        | false ↦ λ t. first-calm m fs (q .1) v c
+      ]) refl
+    where
+      and-left : (a b : Bool) → a && b ≡ true → a ≡ true
+      and-left true b e = refl
+      and-left false b e = e
+
+  tried-calm : (ks : List ℕ) (fs : List Finding) → Quiet fs → Calm (tried ks fs (answered vs outs))
+  unfolding tried
+  tried-calm [] fs q = λ e. absurd (let z : _≡_ {A = ℕ} 0 1 = cc in omega arith)
+  tried-calm (m ∷ ks) fs q = first-calm m fs q (tried ks fs (answered vs outs)) (tried-calm ks fs q)
+
+  -- an admission refuses only with numbers that touch nothing
+  pub refused-quiet : (fs : List Finding) → Quiet fs → judged fs (answered vs outs) ≡ refused k p → zeroing k ≡ false
+  unfolding judged
+  refused-quiet fs q = tried-calm order fs q

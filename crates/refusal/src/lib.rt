@@ -31,8 +31,14 @@ pub const SHEET: u8 = 9;
 // The most marks of a table or a valuation.
 pub const MAX_MARKS: u16 = 60;
 
-// The most nodes of a table.
+// The most nodes of a table, and of a room.
 pub const MAX_NODES: usize = 4096;
+
+// The least node room.
+pub const MIN_ROOM: usize = 2;
+
+// The most input clauses or cases.
+pub const MAX_CLAUSES: usize = 1024;
 
 pub enum Truth {
     Yes,
@@ -43,6 +49,18 @@ pub enum Truth {
 pub enum Counted {
     Number(u64),
     Refused(Refusal),
+}
+
+// Zeros from start to the end.
+pub fn zero_u32_from(buffer: &mut [u32], start: usize)
+    requires { ⌜ start ≤ length (now buffer) ⌝ }
+    ensures { λ _. ⌜ now (buffer .exit) ≡ padded (take start (now (buffer .entry))) (length (now (buffer .entry))) ⌝ }
+{
+    let mut i = start;
+    while i < buffer.len() {
+        buffer[i] = 0;
+        i += 1;
+    }
 }
 
 // Zeros from start to the end.

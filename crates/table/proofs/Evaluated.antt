@@ -1,15 +1,13 @@
 -- What evaluation's verdict is for a sound table and a case within its marks.
-use mathlib.Core.Path.{_≡_, refl, sym, ap, _∙_}
-use mathlib.Core.Bool.{Bool, true, false, cond, _||_}
+use mathlib.Core.Path.{_≡_}
 use mathlib.Core.List.{List, [], _∷_}
-use Prim.Native.Nat.{ℕ, _-_, _^_, _≤_, _<_}
+use Prim.Native.Nat.{ℕ, _-_, _^_, _<_}
 use native.Mathlib.Omega.{arith}
-use lib.Dec.{ltb, leb}
 use borrow.Author.Tests.{le-ltb, lt-leb}
 use Rattle.theory.specs.Table.{num}
 use Rattle.refusal.specs.Number.{order}
 use Rattle.refusal.specs.Verdict.{answered, firstOf, tried, judged}
-use Rattle.table.specs.Inspection.{overLimit, tooShort, firstBad, SoundTable}
+use Rattle.table.specs.Inspection.{overLimit, tooShort, SoundTable}
 use Rattle.table.specs.Case.{overCase, tableSays, evaluates}
 use Rattle.table.proofs.InspectLaws.{bad-none}
 

@@ -17,7 +17,7 @@ use Rattle.refusal.specs.Verdict.{firstOf, tried, judged, replied, refusedWith,
 use Rattle.refusal.proofs.Firsts.{first-before, first-none}
 use Rattle.table.specs.Inspection.{overLimit, tooShort, firstBad, roots, inspects}
 
-or-false : (a b : Bool) → false ≡ a || b → (false ≡ a) × (false ≡ b)
+pub or-false : (a b : Bool) → false ≡ a || b → (false ≡ a) × (false ≡ b)
 or-false true b e = (e, sym (true-b b e))
   where
     true-b : (b : Bool) → false ≡ true → b ≡ false

@@ -1,8 +1,6 @@
 -- Different answers of inspection have different replies.
 use mathlib.Core.Path.{_≡_, sym, ap}
 use Rattle.refusal.proofs.Single.{OneToOne, no-values, one-value, refusal-single}
-use Rattle.table.specs.declared.BddPointer.{BddPointer}
-use Rattle.table.specs.declared.Inspection.{Inspection}
 use Rattle.table.specs.declared.Inspection.the-variants.{Sound, Refused}
 use Rattle.table.specs.Inspection.{inspectionReply}
 

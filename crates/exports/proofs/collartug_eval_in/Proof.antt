@@ -2,11 +2,6 @@ use Rattle.exports.proofs.ReplyLaws.{exported}
 use borrow.Author.Needs.{needs}
 use Rattle.exports.proofs.collartug_eval_in.Statement.{statement}
 use Rattle.exports.proofs.collartug_eval_in.Tie as tie
-use Rattle.exports.proofs.collartug_eval_in.Reads as reads
-use Rattle.exports.proofs.collartug_eval_in.Lts as lts
-use Rattle.exports.proofs.truth_written.Reads as truth-written-reads
-use Rattle.exports.proofs.write_reply.Reads as write-reply-reads
-use Rattle.table.proofs.eval_in.Reads as eval-in-reads
 
 eval-in-requires : tie.Need-eval-in-requires
 eval-in-requires c κs = search needs

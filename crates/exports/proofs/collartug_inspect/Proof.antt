@@ -2,11 +2,6 @@ use Rattle.exports.proofs.ReplyLaws.{exported}
 use borrow.Author.Needs.{needs}
 use Rattle.exports.proofs.collartug_inspect.Statement.{statement}
 use Rattle.exports.proofs.collartug_inspect.Tie as tie
-use Rattle.exports.proofs.collartug_inspect.Reads as reads
-use Rattle.exports.proofs.collartug_inspect.Lts as lts
-use Rattle.exports.proofs.inspection_written.Reads as inspection-written-reads
-use Rattle.exports.proofs.write_reply.Reads as write-reply-reads
-use Rattle.table.proofs.inspect.Reads as inspect-reads
 
 inspect-requires : tie.Need-inspect-requires
 inspect-requires c κs = search needs

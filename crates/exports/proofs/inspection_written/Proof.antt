@@ -5,10 +5,6 @@ use Rattle.table.specs.Inspection.{inspectionReply}
 use borrow.Author.Needs.{needs}
 use Rattle.exports.proofs.inspection_written.Statement.{statement}
 use Rattle.exports.proofs.inspection_written.Tie as tie
-use Rattle.exports.proofs.inspection_written.Reads as reads
-use Rattle.exports.proofs.inspection_written.Lts as lts
-use Rattle.exports.proofs.refusal_written.Reads as refusal-written-reads
-use Rattle.exports.proofs.value_written.Reads as value-written-reads
 
 enum-known-inspection : tie.Need-enum-known-inspection
 enum-known-inspection c = search needs

@@ -3,8 +3,6 @@ use Rattle.refusal.specs.Buffers.{padded}
 use borrow.Author.Needs.{needs}
 use Rattle.exports.proofs.refusal_written.Statement.{statement}
 use Rattle.exports.proofs.refusal_written.Tie as tie
-use Rattle.exports.proofs.refusal_written.Reads as reads
-use Rattle.exports.proofs.refusal_written.Lts as lts
 
 cast-t2 : tie.Need-cast-t2
 cast-t2 c = search needs

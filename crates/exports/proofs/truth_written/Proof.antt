@@ -5,10 +5,6 @@ use Rattle.refusal.specs.Truth.{truthReply}
 use borrow.Author.Needs.{needs}
 use Rattle.exports.proofs.truth_written.Statement.{statement}
 use Rattle.exports.proofs.truth_written.Tie as tie
-use Rattle.exports.proofs.truth_written.Reads as reads
-use Rattle.exports.proofs.truth_written.Lts as lts
-use Rattle.exports.proofs.refusal_written.Reads as refusal-written-reads
-use Rattle.exports.proofs.value_written.Reads as value-written-reads
 
 enum-told : tie.Need-enum-told
 enum-told c = search needs

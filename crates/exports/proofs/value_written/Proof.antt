@@ -2,8 +2,6 @@ use mathlib.Core.Path.{refl}
 use Rattle.refusal.specs.Buffers.{padded}
 use Rattle.exports.proofs.value_written.Statement.{statement}
 use Rattle.exports.proofs.value_written.Tie as tie
-use Rattle.exports.proofs.value_written.Reads as reads
-use Rattle.exports.proofs.value_written.Lts as lts
 
 returns : tie.Need-returns
 unfolding padded

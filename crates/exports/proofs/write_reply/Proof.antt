@@ -2,13 +2,10 @@ use native.Mathlib.Omega.{arith}
 use mathlib.Core.Path.{refl, _∙_}
 use lib.ListN.{length-set}
 use borrow.Author.Tests.{lt-ltb, le-ltb}
-use Rattle.exports.proofs.ReplyLaws.{five-stored, stored, left-alone}
+use Rattle.exports.proofs.ReplyLaws.{stored, left-alone}
 use borrow.Author.Needs.{needs}
 use Rattle.exports.proofs.write_reply.Statement.{statement}
 use Rattle.exports.proofs.write_reply.Tie as tie
-use Rattle.exports.proofs.write_reply.Reads as reads
-use Rattle.exports.proofs.write_reply.Lts as lts
-use Rattle.refusal.proofs.zero_u64_from.Reads as zero-u64-from-reads
 
 returns : tie.Need-returns
 returns c = (rw (lt-ltb _ _ (c .if1 .taken)), left-alone _ _ (c .if1 .taken))

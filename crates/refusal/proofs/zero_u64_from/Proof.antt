@@ -5,8 +5,6 @@ use borrow.Author.Needs.{needs}
 use Rattle.refusal.proofs.Zeroing.{Zeroed, zeroed-none, zeroed-more, zeroed-all}
 use Rattle.refusal.proofs.zero_u64_from.Statement.{statement}
 use Rattle.refusal.proofs.zero_u64_from.Tie as tie
-use Rattle.refusal.proofs.zero_u64_from.Reads as reads
-use Rattle.refusal.proofs.zero_u64_from.Lts as lts
 
 abbrev Inv-loop : tie.InvT-loop
 Inv-loop buffer₀ start i₀ buffer i = Zeroed buffer₀ start i buffer

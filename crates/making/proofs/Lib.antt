@@ -1,0 +1,3 @@
+pub mod SettleLaws
+pub mod RoomLaws
+pub mod MakesLaws
