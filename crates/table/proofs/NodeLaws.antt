@@ -6,9 +6,21 @@ use Prim.Native.Nat.{ℕ, _≤_, _<_}
 use native.Mathlib.Omega.{arith}
 use lib.Dec.{eqb, ltb}
 use borrow.Author.Tests.{eq-eqb, ne-eqb, lt-ltb, le-ltb}
-use Rattle.theory.specs.Table.{node, at, same, linkOk, nodeOk}
+use Rattle.theory.specs.Table.{Node, node, same, linkOk, nodeOk}
 use Rattle.theory.specs.Words.{nodeAt, nodes}
 use Rattle.theory.proofs.Words.{at-nodes}
+
+-- the test of one node, word by word
+module _ (x : Node) (v p q mark : ℕ) (em : mark ≡ x .mark) where
+  pub other-mark : (mark ≡ v → ⊥) → false ≡ same x (node v p q)
+  other-mark ne = rw (← em, ne-eqb mark v ne)
+
+  module _ (is : mark ≡ v) (low : ℕ) (el : low ≡ x .low) where
+    pub other-low : (low ≡ p → ⊥) → false ≡ same x (node v p q)
+    other-low ne = rw (← em, ← el, eq-eqb mark v is, ne-eqb low p ne)
+
+    pub high-decides : low ≡ p → (high : ℕ) → high ≡ x .high → eqb high q ≡ same x (node v p q)
+    high-decides e high eh = rw (← em, ← el, ← eh, eq-eqb mark v is, eq-eqb low p e)
 
 module _ (count : ℕ) (w : List ℕ) (p : ℕ) (h : p < count) where
   pub link-up : (to : ℕ) → p ≤ to → false ≡ linkOk (nodes count w) p to
@@ -19,21 +31,12 @@ module _ (count : ℕ) (w : List ℕ) (p : ℕ) (h : p < count) where
   unfolding linkOk
   link-down to a b k ea eb = rw (ea, eb, lt-ltb to p k, at-nodes count w p h, at-nodes count w to (omega arith))
 
-  pub constant-decides : (n : ℕ) (r : Bool) → p < 2 → r ≡ same (at (nodes count w) p) (node n p p) → r ≡ nodeOk n (nodes count w) p
+  -- node 0 is (n,0,0), node 1 is (n,1,1)
+  pub constant-decides : (n : ℕ) (r : Bool) → p < 2 → r ≡ same (nodeAt w p) (node n p p) → r ≡ nodeOk n (nodes count w) p
   unfolding nodeOk
-  constant-decides n r k e = rw (lt-ltb p 2 k) e
+  constant-decides n r k e = rw (lt-ltb p 2 k, at-nodes count w p h) e
 
   module _ (n mark : ℕ) (em : mark ≡ (nodeAt w p) .mark) where
-    pub other-mark : (mark ≡ n → ⊥) → false ≡ same (at (nodes count w) p) (node n p p)
-    other-mark ne = rw (at-nodes count w p h, ← em, ne-eqb mark n ne)
-
-    module _ (is : mark ≡ n) (low : ℕ) (el : low ≡ (nodeAt w p) .low) where
-      pub other-low : (low ≡ p → ⊥) → false ≡ same (at (nodes count w) p) (node n p p)
-      other-low ne = rw (at-nodes count w p h, ← em, ← el, eq-eqb mark n is, ne-eqb low p ne)
-
-      pub high-decides : low ≡ p → (high : ℕ) → high ≡ (nodeAt w p) .high → eqb high p ≡ same (at (nodes count w) p) (node n p p)
-      high-decides e high eh = rw (at-nodes count w p h, ← em, ← el, ← eh, eq-eqb mark n is, eq-eqb low p e)
-
     module _ (two : 2 ≤ p) where
       pub mark-over : n ≤ mark → false ≡ nodeOk n (nodes count w) p
       unfolding nodeOk

@@ -3,7 +3,7 @@ ghost use mathlib.Core.Path.{_≡_};
 ghost use mathlib.Core.Bool.{Bool, true, false};
 ghost use Prim.Native.Nat.{ℕ, _+_, _*_, _-_, _<_, _≤_};
 ghost use lib.ListN.{length, getD};
-ghost use Rattle.theory.specs.Table.{Node, node, at, same, linkOk, nodeOk};
+ghost use Rattle.theory.specs.Table.{Node, node, same, linkOk, nodeOk};
 ghost use Rattle.theory.specs.Words.{stride, nodeAt, nodes};
 ghost use Rattle.theory.specs.Mask.{bit};
 ghost use Rattle.refusal.specs.Limits.{maxMarks, maxNodes};
@@ -34,7 +34,7 @@ pub enum Inspection {
 }
 
 // The mark's word, which before inspection may be any.
-fn mark_word(bdd: &[u32], p: BddPointer) -> u32
+pub fn mark_word(bdd: &[u32], p: BddPointer) -> u32
     requires { ⌜ stride * p .0 < length (now bdd) ⌝ }
     ensures { λ r. ⌜ r ≡ (nodeAt (now (bdd .entry)) (p .0)) .mark ⌝ }
 {
@@ -76,18 +76,24 @@ fn link_ok(count: usize, bdd: &[u32], p: BddPointer, to: BddPointer) -> bool
     mark_word(bdd, p) < mark_word(bdd, to)
 }
 
-// Node 0 is (n,0,0), node 1 is (n,1,1).
-fn constant_ok(n: u16, count: usize, bdd: &[u32], p: BddPointer) -> bool
-    requires { ⌜ (p .0 < count) × (stride * count ≤ length (now bdd)) ⌝ }
-    ensures { λ r. ⌜ r ≡ same (at (nodes count (now (bdd .entry))) (p .0)) (node n (p .0) (p .0)) ⌝ }
+// Node p has that mark and those links.
+pub fn same_node(
+    bdd: &[u32],
+    p: BddPointer,
+    variable: BddVariable,
+    low: BddPointer,
+    high: BddPointer,
+) -> bool
+    requires { ⌜ stride * p .0 + 2 < length (now bdd) ⌝ }
+    ensures { λ r. ⌜ r ≡ same (nodeAt (now (bdd .entry)) (p .0)) (node (variable .0) (low .0) (high .0)) ⌝ }
 {
-    if mark_word(bdd, p) != n as u32 {
+    if mark_word(bdd, p) != variable.0 as u32 {
         return false;
     }
-    if low_link_of(bdd, p).0 != p.0 {
+    if low_link_of(bdd, p).0 != low.0 {
         return false;
     }
-    high_link_of(bdd, p).0 == p.0
+    high_link_of(bdd, p).0 == high.0
 }
 
 // Node p is as an ordered table has it: a constant, or a mark below n over two sound links.
@@ -96,7 +102,7 @@ fn node_ok(n: u16, count: usize, bdd: &[u32], p: BddPointer) -> bool
     ensures { λ r. ⌜ r ≡ nodeOk n (nodes count (now (bdd .entry))) (p .0) ⌝ }
 {
     if p.0 < 2 {
-        return constant_ok(n, count, bdd, p);
+        return same_node(bdd, p, BddVariable(n), p, p);
     }
     if n as u32 <= mark_word(bdd, p) {
         return false;

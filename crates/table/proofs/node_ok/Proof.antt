@@ -5,11 +5,11 @@ use borrow.Author.Needs.{needs}
 use Rattle.table.proofs.node_ok.Statement.{statement}
 use Rattle.table.proofs.node_ok.Tie as tie
 
-constant-ok-requires : tie.Need-constant-ok-requires
-constant-ok-requires c κs = search needs
+same-node-requires : tie.Need-same-node-requires
+same-node-requires c κs = search needs
 
 returns : tie.Need-returns
-returns c = constant-decides _ _ _ (search needs) _ _ (c .before .if1 .taken) (c .constant-ok .ensures)
+returns c = constant-decides _ _ _ (search needs) _ _ (c .before .if1 .taken) (c .same-node .ensures)
 
 mark-word-requires : tie.Need-mark-word-requires
 mark-word-requires c κs = search needs
@@ -39,7 +39,7 @@ pub node-ok-spec : {M : Type 1} → statement M
 node-ok-spec =
     tie.close
     (tie.spec
-    constant-ok-requires
+    same-node-requires
     returns
     mark-word-requires
     returns-2
