@@ -11,3 +11,5 @@ pub mod Levels
 pub mod Reach
 pub mod Words
 pub mod Bench
+pub mod Marks
+pub mod Clauses

@@ -1,0 +1,4 @@
+pub mod Checks
+pub mod Answers
+pub mod Gathering
+pub mod Listing

@@ -1,0 +1,23 @@
+-- `word_of`: 2·mark + value.
+use borrow.Author.Needs.{needs}
+use Rattle.valuation.proofs.Answers.{word-one, word-zero}
+use Rattle.valuation.proofs.word_of.Statement.{statement}
+use Rattle.valuation.proofs.word_of.Tie as tie
+
+mul-result : tie.Need-mul-result
+mul-result c = search needs
+
+add-result : tie.Need-add-result
+add-result c = search needs
+
+mul-result-2 : tie.Need-mul-result-2
+mul-result-2 c = search needs
+
+returns : tie.Need-returns
+returns c = word-one _ _ (c .if1 .taken)
+
+returns-2 : tie.Need-returns-2
+returns-2 c = word-zero _ _ (c .if1 .left)
+
+pub word-of-spec : {M : Type 1} → statement M
+word-of-spec = tie.close (tie.spec mul-result add-result mul-result-2 returns returns-2)
