@@ -70,46 +70,45 @@ pub empty-formed : (n : ℕ) → WellFormed n emptyClause
 unfolding emptyClause
 empty-formed n = record { small = pow-pos n; small-values = pow-pos n; inside = λ i d. bit-zero i }
 
-pub set-formed : (n : ℕ) (c : Clause) (m : ℕ) (b : Bool) → m < n → WellFormed n c → WellFormed n (setCell c m b)
-unfolding setCell
-set-formed n c m b h w = record {
-  small = setBit-lt n m true (c .fixed) h (w .small);
-  small-values = setBit-lt n m b (c .values) h (w .small-values);
-  inside = λ i d. bit-setBit i m b (c .values) ∙ kept (eqb i m) (bit i (c .fixed)) (bit i (c .values)) b (sym (bit-setBit i m true (c .fixed)) ∙ d) (w .inside i);
+-- a cell written anew: set to a value, or unset
+abbrev written : Clause → ℕ → Bool → Bool → Clause
+written c m f v = record { fixed = setBit m f (c .fixed); values = setBit m v (c .values) }
+
+written-formed : (n : ℕ) (c : Clause) (m : ℕ) (f v : Bool) → (f ≡ false → v ≡ false) → m < n → WellFormed n c → WellFormed n (written c m f v)
+written-formed n c m f v inside h w = record {
+  small = setBit-lt n m f (c .fixed) h (w .small);
+  small-values = setBit-lt n m v (c .values) h (w .small-values);
+  inside = λ i d. bit-setBit i m v (c .values) ∙ kept (eqb i m) (bit i (c .fixed)) (bit i (c .values)) (sym (bit-setBit i m f (c .fixed)) ∙ d) (w .inside i);
 }
   where
-    kept : (t f v b : Bool) → cond t true f ≡ false → (f ≡ false → v ≡ false) → cond t b v ≡ false
-    kept true f v b e h = absurd (clash refl e)
-    kept false f v b e h = h e
+    kept : (t g y : Bool) → cond t f g ≡ false → (g ≡ false → y ≡ false) → cond t v y ≡ false
+    kept true g y e a = inside e
+    kept false g y e a = a e
+
+cell-written : (c : Clause) (m : ℕ) (f v : Bool) (k : ℕ) → cell (written c m f v) k ≡ cond (eqb k m) (cond f (some v) none) (cell c k)
+unfolding cell
+cell-written c m f v k = rw (bit-setBit k m f (c .fixed), bit-setBit k m v (c .values)) (split (eqb k m))
+  where
+    split : (t : Bool) → cond (cond t f (bit k (c .fixed))) (some (cond t v (bit k (c .values)))) none ≡ cond t (cond f (some v) none) (cond (bit k (c .fixed)) (some (bit k (c .values))) none)
+    split true = refl
+    split false = refl
+
+pub set-formed : (n : ℕ) (c : Clause) (m : ℕ) (b : Bool) → m < n → WellFormed n c → WellFormed n (setCell c m b)
+unfolding setCell
+set-formed n c m b = written-formed n c m true b (λ e. absurd (clash refl e))
 
 pub unset-formed : (n : ℕ) (c : Clause) (m : ℕ) → m < n → WellFormed n c → WellFormed n (unsetCell c m)
 unfolding unsetCell
-unset-formed n c m h w = record {
-  small = setBit-lt n m false (c .fixed) h (w .small);
-  small-values = setBit-lt n m false (c .values) h (w .small-values);
-  inside = λ i d. bit-setBit i m false (c .values) ∙ kept (eqb i m) (bit i (c .fixed)) (bit i (c .values)) (sym (bit-setBit i m false (c .fixed)) ∙ d) (w .inside i);
-}
-  where
-    kept : (t f v : Bool) → cond t false f ≡ false → (f ≡ false → v ≡ false) → cond t false v ≡ false
-    kept true f v e h = refl
-    kept false f v e h = h e
+unset-formed n c m = written-formed n c m false false (λ e. refl)
 
 -- the cells after one was set or unset
 pub cell-set : (c : Clause) (m : ℕ) (b : Bool) (k : ℕ) → cell (setCell c m b) k ≡ cond (eqb k m) (some b) (cell c k)
-unfolding cell setCell
-cell-set c m b k = rw (bit-setBit k m true (c .fixed), bit-setBit k m b (c .values)) (split (eqb k m))
-  where
-    split : (t : Bool) → cond (cond t true (bit k (c .fixed))) (some (cond t b (bit k (c .values)))) none ≡ cond t (some b) (cond (bit k (c .fixed)) (some (bit k (c .values))) none)
-    split true = refl
-    split false = refl
+unfolding setCell
+cell-set c m b k = cell-written c m true b k
 
 pub cell-unset : (c : Clause) (m k : ℕ) → cell (unsetCell c m) k ≡ cond (eqb k m) none (cell c k)
-unfolding cell unsetCell
-cell-unset c m k = rw (bit-setBit k m false (c .fixed), bit-setBit k m false (c .values)) (split (eqb k m))
-  where
-    split : (t : Bool) → cond (cond t false (bit k (c .fixed))) (some (cond t false (bit k (c .values)))) none ≡ cond t none (cond (bit k (c .fixed)) (some (bit k (c .values))) none)
-    split true = refl
-    split false = refl
+unfolding unsetCell
+cell-unset c m k = cell-written c m false false k
 
 pub cell-empty : (m : ℕ) → cell emptyClause m ≡ none
 unfolding cell emptyClause
@@ -150,6 +149,39 @@ cell-ext n c d w u e = λ i. record { fixed = p i; values = q i }
 
     q : c .values ≡ d .values
     q = bit-ext n (c .values) (d .values) (w .small-values) (u .small-values) (λ m h. sym (cell-value n c w m) ∙ ap valueOf (e m h) ∙ cell-value n d u m)
+
+-- ---- a cell put into a clause: both ways to write one
+
+abbrev pub putCell : Clause → ℕ → Option Bool → Clause
+putCell c m none = unsetCell c m
+putCell c m (some b) = setCell c m b
+
+pub putCell-formed : (n : ℕ) (c : Clause) (m : ℕ) (o : Option Bool) → m < n → WellFormed n c → WellFormed n (putCell c m o)
+putCell-formed n c m none = unset-formed n c m
+putCell-formed n c m (some b) = set-formed n c m b
+
+pub cell-putCell : (c : Clause) (m : ℕ) (o : Option Bool) (k : ℕ) → cell (putCell c m o) k ≡ cond (eqb k m) o (cell c k)
+cell-putCell c m none k = cell-unset c m k
+cell-putCell c m (some b) k = cell-set c m b k
+
+-- the later of two at one mark stands
+pub putCell-twice : (n : ℕ) (c : Clause) (m : ℕ) (p o : Option Bool) → m < n → WellFormed n c → putCell (putCell c m p) m o ≡ putCell c m o
+putCell-twice n c m p o h w =
+    cell-ext n (putCell (putCell c m p) m o) (putCell c m o) (putCell-formed n (putCell c m p) m o h (putCell-formed n c m p h w)) (putCell-formed n c m o h w)
+    (λ k l. cell-putCell (putCell c m p) m o k ∙ ap (λ x. cond (eqb k m) o x) (cell-putCell c m p k) ∙ twice (eqb k m) (cell c k) ∙ sym (cell-putCell c m o k))
+  where
+    twice : (t : Bool) (x : Option Bool) → cond t o (cond t p x) ≡ cond t o x
+    twice true x = refl
+    twice false x = refl
+
+-- what a cell holds already, put there, changes nothing
+pub putCell-idle : (n : ℕ) (c : Clause) (m : ℕ) → m < n → WellFormed n c → putCell c m (cell c m) ≡ c
+putCell-idle n c m h w =
+    cell-ext n (putCell c m (cell c m)) c (putCell-formed n c m (cell c m) h w) w
+    (λ k l. cell-putCell c m (cell c m) k ∙ elim (ℕ-discrete k m) [
+      | yes e ↦ rw (eq-eqb k m e, e)
+      | no e ↦ rw (ne-eqb k m e)
+    ])
 
 -- ---- one clause extends another
 

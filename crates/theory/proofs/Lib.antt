@@ -13,3 +13,4 @@ pub mod Words
 pub mod Bench
 pub mod Marks
 pub mod Clauses
+pub mod Gathers

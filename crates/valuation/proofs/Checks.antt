@@ -78,6 +78,9 @@ mark-below c m r e h = elim (decLt m maxMarks) [
   | no d ↦ absurd (passed r 2 m (e ∙ sym (mark-bad c m (omega arith))) h)
 ]
 
+pub mark-formed : (c : Clause) (m : ℕ) (r : Refusal) → refusalReply r ≡ replied (checked (ofMark c m)) → r .number ≡ 0 → WellFormed maxMarks c
+mark-formed c m r e h = one-formed c r (e ∙ sym (mark-good c m (mark-below c m r e h))) h
+
 pub mark-fits : (c : Clause) (m : ℕ) (r : Refusal) → refusalReply r ≡ replied (checked (ofMark c m)) → r .number ≡ 0 → m < 64
 mark-fits c m r e h = omega (arith, mark-below c m r e h)
 

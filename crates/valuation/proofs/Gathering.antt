@@ -5,6 +5,7 @@ use mathlib.Core.List.{List, [], _∷_}
 use Prim.Native.Nat.{ℕ, suc, _+_, _/_, _^_, _≤_, _<_}
 use native.Mathlib.Numerals.{add-one}
 use native.Mathlib.Omega.{arith}
+use native.Mathlib.Decide.{decLt}
 use lib.Dec.{ltb}
 use lib.ListN.{length, getD, drop, drop-of-length-le}
 use lib.Seq.{drop-cons}
@@ -14,11 +15,11 @@ use Rattle.theory.specs.Mask.{odd}
 use Rattle.theory.specs.Clause.{Clause, emptyClause, setCell, gather}
 use Rattle.refusal.specs.Limits.{maxMarks}
 use Rattle.refusal.proofs.Firsts.{first-le, first-is, first-none, first-before}
-use Rattle.valuation.specs.Valuation.{clauseOf, firstBadMark, saysClause, gathersValues}
+use Rattle.valuation.specs.Valuation.{clauseOf, firstBadMark, ofList, saysClause, gathersValues}
 use Rattle.valuation.specs.Replies.{updatedReply}
 use Rattle.valuation.specs.declared.Updated.the-variants.{Valuation, Refused}
 use Rattle.refusal.specs.Number.{VARIABLE}
-use Rattle.refusal.specs.Verdict.{replied, refusedWith}
+use Rattle.refusal.specs.Verdict.{Reply, replied, refusedWith, answered, judged}
 use Rattle.valuation.proofs.Checks.{list-bad, list-good}
 use Rattle.valuation.specs.declared.BddPartialValuation.{BddPartialValuation}
 
@@ -43,6 +44,23 @@ bad-none {ws} {i} p l =
     let e : i ≡ length ws = omega arith in
     e ∙ sym (first-none _ (length ws) (λ j d. p .good j (omega arith)))
 
+bad-le : (ws : List ℕ) → firstBadMark ws ≤ length ws
+unfolding firstBadMark
+bad-le ws = first-le (λ j. ltb (getD ws j 0 / 2) maxMarks) (length ws)
+
+-- where no entry is bad, every mark is below 60
+pub all-below : (ws : List ℕ) → firstBadMark ws ≡ length ws → (i : ℕ) → i < length ws → getD ws i 0 / 2 < maxMarks
+unfolding firstBadMark
+all-below ws e i h = ltb-true (getD ws i 0 / 2) maxMarks (first-before (λ j. ltb (getD ws j 0 / 2) maxMarks) (length ws) i (omega arith))
+
+-- a list that is not refused has no bad entry
+pub passed-all : (ws : List ℕ) → judged (ofList ws) (answered [] []) ≡ answered [] [] → firstBadMark ws ≡ length ws
+unfolding replied
+passed-all ws e = elim (decLt (firstBadMark ws) (length ws)) [
+  | yes h ↦ absurd (omega (arith, ap (λ (x : Reply). x .number) (list-bad ws (answered [] []) h ∙ ap replied e)))
+  | no h ↦ omega (arith, bad-le ws)
+]
+
 -- ---- the fold
 
 -- the fold of the entries from i on, from the valuation now, is the whole fold
@@ -65,8 +83,7 @@ gathered-next {ws} {v} {i} g l u e = record { within = omega arith; fold = step 
 
 -- where no entry is bad, the next one's mark is below 60
 pub mark-of : {ws : List ℕ} {v : BddPartialValuation} {i : ℕ} → Gathered ws v i → firstBadMark ws ≡ length ws → i < length ws → getD ws i 0 / 2 < maxMarks
-unfolding firstBadMark
-mark-of {ws} {v} {i} g e h = ltb-true (getD ws i 0 / 2) maxMarks (first-before (λ j. ltb (getD ws j 0 / 2) maxMarks) (length ws) i (omega arith))
+mark-of {ws} {v} {i} g e h = all-below ws e i h
 
 pub mark-narrow : {ws : List ℕ} {v : BddPartialValuation} {i : ℕ} → Gathered ws v i → firstBadMark ws ≡ length ws → i < length ws → getD ws i 0 / 2 < 2 ^ 16
 mark-narrow g e h = omega (arith, mark-of g e h)
@@ -85,9 +102,6 @@ bad-refuses ws p e h = ap (refusedWith VARIABLE) e ∙ list-bad ws _ (rw e at h)
 
 pub none-bad : (ws : List ℕ) (p : ℕ) → p ≡ firstBadMark ws → length ws ≤ p → firstBadMark ws ≡ length ws
 none-bad ws p e h = omega (arith, bad-le ws)
-  where
-    bad-le : (ws : List ℕ) → firstBadMark ws ≤ length ws
-    bad-le ws = unfold firstBadMark in first-le (λ j. ltb (getD ws j 0 / 2) maxMarks) (length ws)
 
 pub gathered-answer : (ws : List ℕ) (p : ℕ) (v : BddPartialValuation) → p ≡ firstBadMark ws → length ws ≤ p → clauseOf v ≡ gather emptyClause ws → updatedReply (Valuation v) ≡ replied (gathersValues ws)
 unfolding updatedReply gathersValues replied
