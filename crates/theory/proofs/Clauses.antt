@@ -1,15 +1,15 @@
 -- Laws of clauses: well-formed ones, their cells, and when one extends another.
-use mathlib.Core.Path.{_≡_, refl, sym, ap, ap₂, _∙_}
-use mathlib.Core.Logic.{_≢_, _⊎_, inl, inr}
+use mathlib.Core.Path.{_≡_, refl, sym, ap, _∙_}
+use mathlib.Core.Logic.{_≢_}
 use mathlib.Core.Bool.{Bool, true, false, cond, not, _||_, _&&_, Bool·beq}
 use mathlib.Core.Option.{Option, none, some}
-use Prim.Native.Nat.{ℕ, zero, suc, _+_, _^_, _≤_, _<_}
+use Prim.Native.Nat.{ℕ, zero, suc, _^_, _≤_, _<_}
 use native.Mathlib.Omega.{arith}
 use native.Mathlib.Decide.{ℕ-discrete, decLt}
-use lib.Dec.{eqb, leb}
+use lib.Dec.{eqb}
 use lib.Bits.{bitAnd, bitOr, or-add-and, and-le-l, or-lt, and-lt}
 use lib.Pow.{pow-pos}
-use borrow.Author.Tests.{eq-eqb, ne-eqb, eqb-true, eqb-false, leb-true, leb-false, le-leb, lt-leb}
+use borrow.Author.Tests.{eq-eqb, ne-eqb, le-leb, lt-leb}
 use Rattle.theory.specs.Mask.{bit, setBit}
 use Rattle.theory.specs.Clause.{Clause, WellFormed, malformed, cell, emptyClause, setCell, unsetCell, agreeing, extending}
 use Rattle.theory.proofs.Masks.{bit-and, bit-or, bit-zero, bit-ext, bit-setBit, setBit-lt}
@@ -17,11 +17,11 @@ use Rattle.theory.proofs.Masks.{bit-and, bit-or, bit-zero, bit-ext, bit
 clash : {b : Bool} → b ≡ true → b ≡ false → ⊥
 clash p q = let z : _≡_ {A = ℕ} 1 0 = ap (λ t. cond t 1 0) (sym p ∙ q) in omega arith
 
-and-left : (a b : Bool) → a && b ≡ true → a ≡ true
+pub and-left : (a b : Bool) → a && b ≡ true → a ≡ true
 and-left true b e = refl
 and-left false b e = e
 
-and-right : (a b : Bool) → a && b ≡ true → b ≡ true
+pub and-right : (a b : Bool) → a && b ≡ true → b ≡ true
 and-right true b e = e
 and-right false b e = absurd (clash e refl)
 
@@ -115,19 +115,19 @@ unfolding cell emptyClause
 cell-empty m = rw (bit-zero m)
 
 -- a cell is unset exactly where its mark is not fixed
-abbrev isSome : Option Bool → Bool
-isSome none = false
-isSome (some b) = true
+abbrev pub isSet : Option Bool → Bool
+isSet none = false
+isSet (some b) = true
 
 abbrev valueOf : Option Bool → Bool
 valueOf none = false
 valueOf (some b) = b
 
-pub cell-fixed : (c : Clause) (m : ℕ) → isSome (cell c m) ≡ bit m (c .fixed)
+pub cell-fixed : (c : Clause) (m : ℕ) → isSet (cell c m) ≡ bit m (c .fixed)
 unfolding cell
 cell-fixed c m = split (bit m (c .fixed)) (bit m (c .values))
   where
-    split : (f v : Bool) → isSome (cond f (some v) none) ≡ f
+    split : (f v : Bool) → isSet (cond f (some v) none) ≡ f
     split true v = refl
     split false v = refl
 
@@ -145,7 +145,7 @@ pub cell-ext : (n : ℕ) (c d : Clause) → WellFormed n c → WellFormed n d �
 cell-ext n c d w u e = λ i. record { fixed = p i; values = q i }
   where
     p : c .fixed ≡ d .fixed
-    p = bit-ext n (c .fixed) (d .fixed) (w .small) (u .small) (λ m h. sym (cell-fixed c m) ∙ ap isSome (e m h) ∙ cell-fixed d m)
+    p = bit-ext n (c .fixed) (d .fixed) (w .small) (u .small) (λ m h. sym (cell-fixed c m) ∙ ap isSet (e m h) ∙ cell-fixed d m)
 
     q : c .values ≡ d .values
     q = bit-ext n (c .values) (d .values) (w .small-values) (u .small-values) (λ m h. sym (cell-value n c w m) ∙ ap valueOf (e m h) ∙ cell-value n d u m)
@@ -304,7 +304,7 @@ unfolding agreeing cell
 extending-cells n c d e m b h s = each (bit m (c .fixed)) (bit m (c .values)) (bit m (d .fixed)) (bit m (d .values)) (extending-each n c d e m h) s
   where
     each : (f v g y : Bool) → not g || (f && Bool·beq v y) ≡ true → cond g (some y) none ≡ some b → cond f (some v) none ≡ some b
-    each f v false y a s = absurd (clash refl (sym (ap isSome s)))
+    each f v false y a s = absurd (clash refl (sym (ap isSet s)))
     each false v true y a s = absurd (clash a refl)
     each true true true true a s = s
     each true true true false a s = absurd (clash a refl)

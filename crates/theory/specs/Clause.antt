@@ -58,12 +58,12 @@ extending zero c d = true
 extending (suc n) c d = extending n c d && agreeing c d n
 
 -- a mark and its value as one word: 2·mark + value
-abbrev pub wordOf : ℕ → Bool → ℕ
-wordOf m b = 2 * m + cond b 1 0
+abbrev pub entryOf : ℕ → Bool → ℕ
+entryOf m b = 2 * m + cond b 1 0
 
 -- the words of the marks below n that a clause fixes, rising
-unfoldable pub wordsOf : ℕ → Clause → List ℕ
-wordsOf n c = map (λ m. wordOf m (bit m (c .values))) (marksOf n (c .fixed))
+unfoldable pub entriesOf : ℕ → Clause → List ℕ
+entriesOf n c = map (λ m. entryOf m (bit m (c .values))) (marksOf n (c .fixed))
 
 -- one word after another sets its mark: the last wins
 unfoldable pub gather : Clause → List ℕ → Clause

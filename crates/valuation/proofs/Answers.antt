@@ -1,17 +1,17 @@
 -- Laws of the answers: what each says of bits, cells and marks.
-use mathlib.Core.Path.{_≡_, refl, sym, ap, _∙_}
+use mathlib.Core.Path.{_≡_, sym, ap, _∙_}
 use mathlib.Core.Logic.{_≢_}
-use mathlib.Core.Bool.{Bool, true, false, cond}
-use mathlib.Core.List.{List, [], _∷_}
+use mathlib.Core.Bool.{Bool, true, false}
+use mathlib.Core.List.{[], _∷_}
 use mathlib.Core.Option.{Option, none, some}
-use Prim.Native.Nat.{ℕ, suc, _+_, _-_, _*_, _^_, _≤_, _<_}
+use Prim.Native.Nat.{ℕ, _+_, _-_, _*_, _^_, _≤_, _<_}
 use native.Mathlib.Omega.{arith}
 use lib.Count.{ones, ones-le, leadingZeros, leading-top}
 use lib.ListN.{length}
 use lib.Dec.{eqb}
 use borrow.Author.Tests.{eq-eqb, ne-eqb}
 use Rattle.theory.specs.Mask.{bit}
-use Rattle.theory.specs.Clause.{Clause, cell, marksOf, lastMark, wordOf}
+use Rattle.theory.specs.Clause.{Clause, cell, marksOf, lastMark, entryOf}
 use Rattle.theory.proofs.Marks.{ones-marks, leading-last, last-none}
 use Rattle.refusal.specs.Limits.{maxMarks}
 use Rattle.refusal.specs.Verdict.{replied, gives, answered}
@@ -73,8 +73,8 @@ pub words-tell : (c d : Clause) → c .fixed ≡ d .fixed → eqb (c .values) (d
 unfolding sameWords
 words-tell c d e = rw (eq-eqb (c .fixed) (d .fixed) e)
 
-pub word-one : (m : ℕ) (b : Bool) → b ≡ true → 2 * m + 1 ≡ wordOf m b
-word-one m b e = rw e
+pub entry-one : (m : ℕ) (b : Bool) → b ≡ true → 2 * m + 1 ≡ entryOf m b
+entry-one m b e = rw e
 
-pub word-zero : (m : ℕ) (b : Bool) → b ≡ false → 2 * m ≡ wordOf m b
-word-zero m b e = rw e (omega arith)
+pub entry-zero : (m : ℕ) (b : Bool) → b ≡ false → 2 * m ≡ entryOf m b
+entry-zero m b e = rw e (omega arith)

@@ -1,18 +1,17 @@
 -- What the checks answer, and what is known after one that passed.
 use mathlib.Core.Path.{_≡_, refl, sym, ap, _∙_}
-use mathlib.Core.Bool.{Bool, true, false, cond}
-use mathlib.Core.List.{List, [], _∷_}
+use mathlib.Core.Bool.{true, false}
+use mathlib.Core.List.{List, []}
 use Prim.Native.Nat.{ℕ, suc, _≤_, _<_}
 use native.Mathlib.Omega.{arith}
 use native.Mathlib.Decide.{decLt}
 use lib.ListN.{length}
-use lib.Dec.{leb, ltb}
 use borrow.Author.Tests.{le-leb, lt-leb, lt-ltb, le-ltb}
 use Rattle.theory.specs.Clause.{Clause, WellFormed, malformed}
 use Rattle.theory.proofs.Clauses.{formed}
 use Rattle.refusal.specs.Number.{order, VARIABLE, CLAUSE}
 use Rattle.refusal.specs.Limits.{maxMarks}
-use Rattle.refusal.specs.Verdict.{Verdict, Finding, firstOf, tried, judged, Reply, replied, refusedWith, gives, refusalReply}
+use Rattle.refusal.specs.Verdict.{Verdict, firstOf, tried, judged, Reply, replied, refusedWith, gives, refusalReply}
 use Rattle.refusal.specs.declared.Refusal.{Refusal}
 use Rattle.valuation.specs.Valuation.{ofOne, ofMark, ofTwo, ofList, firstBadMark, checked}
 

@@ -1,8 +1,8 @@
 -- Laws of a list of values: its first mark that is too large, and the fold of its entries.
-use mathlib.Core.Path.{_≡_, refl, sym, ap, _∙_}
-use mathlib.Core.Bool.{true, false}
-use mathlib.Core.List.{List, [], _∷_}
-use Prim.Native.Nat.{ℕ, suc, _+_, _/_, _^_, _≤_, _<_}
+use mathlib.Core.Path.{_≡_, sym, ap, _∙_}
+use mathlib.Core.Bool.{true}
+use mathlib.Core.List.{List, []}
+use Prim.Native.Nat.{ℕ, _+_, _/_, _^_, _≤_, _<_}
 use native.Mathlib.Numerals.{add-one}
 use native.Mathlib.Omega.{arith}
 use native.Mathlib.Decide.{decLt}
@@ -12,7 +12,7 @@ use lib.Seq.{drop-cons}
 use borrow.Author.Count.{below-more}
 use borrow.Author.Tests.{lt-ltb, le-ltb, ltb-true}
 use Rattle.theory.specs.Mask.{odd}
-use Rattle.theory.specs.Clause.{Clause, emptyClause, setCell, gather}
+use Rattle.theory.specs.Clause.{emptyClause, setCell, gather}
 use Rattle.refusal.specs.Limits.{maxMarks}
 use Rattle.refusal.proofs.Firsts.{first-le, first-is, first-none, first-before}
 use Rattle.valuation.specs.Valuation.{clauseOf, firstBadMark, ofList, saysClause, gathersValues}

@@ -4,24 +4,23 @@ use mathlib.Core.Logic.{_≢_, _↔_}
 use mathlib.Core.Bool.{Bool, true, false, cond, _&&_}
 use mathlib.Core.List.{List, [], _∷_, _++_}
 use mathlib.Core.Option.{Option, none, some}
-use Prim.Native.Nat.{ℕ, suc, _+_, _/_, _≤_, _<_}
+use Prim.Native.Nat.{ℕ, _+_, _/_, _<_}
 use native.Mathlib.Omega.{arith}
-use native.Mathlib.Decide.{decLt}
 use lib.Dec.{eqb, ltb}
 use lib.ListN.{length, getD, length-append}
 use lib.Seq.{getD-append-seam}
 use borrow.Author.Tests.{eq-eqb, ne-eqb, eqb-true, lt-leb, lt-ltb}
 use Rattle.theory.specs.Mask.{odd, bit}
-use Rattle.theory.specs.Clause.{Clause, WellFormed, malformed, cell, emptyClause, extending, wordsOf, gather}
-use Rattle.theory.proofs.Clauses.{not-malformed, putCell, putCell-formed, cell-putCell, putCell-twice, putCell-idle, cell-ext, empty-formed, extending-self, extending-both, extending-antisym, extending-cells}
-use Rattle.theory.proofs.Gathers.{MarksBelow, gather-last, gather-formed, words-below, from-words, Rising, to-words}
+use Rattle.theory.specs.Clause.{Clause, WellFormed, cell, emptyClause, extending, entriesOf, gather}
+use Rattle.theory.proofs.Clauses.{isSet, cell-fixed, and-left, and-right, not-malformed, putCell, putCell-formed, cell-putCell, putCell-twice, putCell-idle, cell-ext, empty-formed, extending-self, extending-both, extending-antisym, extending-cells}
+use Rattle.theory.proofs.Gathers.{MarksBelow, gather-last, gather-formed, entries-below, from-entries, Rising, to-entries}
 use Rattle.refusal.specs.Number.{order}
 use Rattle.refusal.specs.Limits.{maxMarks}
 use Rattle.refusal.specs.Verdict.{Verdict, answered, Finding, firstOf, tried, judged, replied, refusalReply}
 use Rattle.refusal.specs.declared.Refusal.{Refusal}
 use Rattle.refusal.proofs.Firsts.{first-none}
 use Rattle.refusal.proofs.Judged.{judged-answer}
-use Rattle.valuation.specs.Valuation.{badMark, badClause, ofOne, ofMark, ofTwo, ofList, firstBadMark, saysTruth, saysClause, saysCell, saysWords, sameWords}
+use Rattle.valuation.specs.Valuation.{ofOne, ofMark, ofTwo, ofList, firstBadMark, saysTruth, saysClause, saysCell, saysEntries, sameWords}
 use Rattle.valuation.specs.Valuation.{gathersValues, listsValues, getsValue, asksValue, setsValue, unsetsValue, asksExtends, asksEqual}
 use Rattle.valuation.proofs.Checks.{one-formed, mark-below, mark-formed, two-formed, list-good}
 use Rattle.valuation.proofs.Gathering.{passed-all, all-below}
@@ -72,8 +71,8 @@ cell-is none (some b) e = let z : _≡_ {A = ℕ} 0 1 = cc in absurd (omega arit
 cell-is (some a) none e = let z : _≡_ {A = ℕ} 1 0 = cc in absurd (omega arith)
 cell-is (some a) (some b) e = let z : cond a 1 0 ≡ cond {A = ℕ} b 1 0 = cc in ap some (truth-is a b (ap (λ k. answered (k ∷ []) []) z))
 
-words-is : (us ws : List ℕ) → saysWords us ≡ saysWords ws → us ≡ ws
-words-is us ws e = cc
+entries-is : (us ws : List ℕ) → saysEntries us ≡ saysEntries ws → us ≡ ws
+entries-is us ws e = cc
 
 -- ---- setting and unsetting, together: none unsets the mark, some b sets it to b
 
@@ -183,20 +182,11 @@ pub set-after-unset : (c d : Clause) (m : ℕ) (b : Bool) → unsetsValue c m �
 set-after-unset c d m b e = put-after-put c d m none e (some b)
 
 -- a mark has a value exactly if its cell holds one
-abbrev pub holds : Option Bool → Bool
-holds none = false
-holds (some b) = true
-
-pub has-as-get : (c : Clause) (m : ℕ) (o : Option Bool) → getsValue c m ≡ saysCell o → asksValue c m ≡ saysTruth (holds o)
+pub has-as-get : (c : Clause) (m : ℕ) (o : Option Bool) → getsValue c m ≡ saysCell o → asksValue c m ≡ saysTruth (isSet o)
 unfolding asksValue
-has-as-get c m o e = found-clear c m o e (saysTruth (bit m (c .fixed))) ∙ ap saysTruth (sym (held (bit m (c .fixed)) (bit m (c .values))) ∙ ap holds (is-cell ∙ found-cell c m o e))
-  where
-    held : (f v : Bool) → holds (cond f (some v) none) ≡ f
-    held true v = refl
-    held false v = refl
-
-    is-cell : cond (bit m (c .fixed)) (some (bit m (c .values))) none ≡ cell c m
-    is-cell = unfold cell in refl
+has-as-get c m o e =
+    found-clear c m o e (saysTruth (bit m (c .fixed)))
+    ∙ ap saysTruth (sym (cell-fixed c m) ∙ ap isSet (found-cell c m o e))
 
 -- ---- from_values and to_values
 
@@ -215,24 +205,24 @@ gathers-all : (ws : List ℕ) → MarksBelow maxMarks ws → gathersValues ws �
 unfolding gathersValues firstBadMark
 gathers-all ws below = list-good ws (saysClause (gather emptyClause ws)) (omega (arith, first-none (λ i. ltb (getD ws i 0 / 2) maxMarks) (length ws) (λ i d. lt-ltb (getD ws i 0 / 2) maxMarks (below i d))))
 
-listed : (c : Clause) (ws : List ℕ) → listsValues c ≡ saysWords ws → Clear (ofOne c)
+listed : (c : Clause) (ws : List ℕ) → listsValues c ≡ saysEntries ws → Clear (ofOne c)
 unfolding listsValues
-listed c ws e = judged-answer (ofOne c) (saysWords (wordsOf maxMarks c)) (length ws ∷ ws) [] e
+listed c ws e = judged-answer (ofOne c) (saysEntries (entriesOf maxMarks c)) (length ws ∷ ws) [] e
 
 -- a valuation comes back from its words
-pub from-after-to : (c : Clause) (ws : List ℕ) → listsValues c ≡ saysWords ws → gathersValues ws ≡ saysClause c
+pub from-after-to : (c : Clause) (ws : List ℕ) → listsValues c ≡ saysEntries ws → gathersValues ws ≡ saysClause c
 unfolding listsValues
 from-after-to c ws e =
     let w : WellFormed maxMarks c = one-formed c noRefusal (clear-check (ofOne c) (listed c ws e)) refl in
-    let same : wordsOf maxMarks c ≡ ws = words-is (wordsOf maxMarks c) ws (sym (listed c ws e (saysWords (wordsOf maxMarks c))) ∙ e) in
-    ap gathersValues (sym same) ∙ gathers-all (wordsOf maxMarks c) (words-below maxMarks maxMarks c (omega arith)) ∙ ap saysClause (from-words maxMarks c w)
+    let same : entriesOf maxMarks c ≡ ws = entries-is (entriesOf maxMarks c) ws (sym (listed c ws e (saysEntries (entriesOf maxMarks c))) ∙ e) in
+    ap gathersValues (sym same) ∙ gathers-all (entriesOf maxMarks c) (entries-below maxMarks maxMarks c (omega arith)) ∙ ap saysClause (from-entries maxMarks c w)
 
 -- a rising list comes back from its valuation
-pub to-after-from : (ws : List ℕ) (c : Clause) → Rising 0 ws → gathersValues ws ≡ saysClause c → listsValues c ≡ saysWords ws
+pub to-after-from : (ws : List ℕ) (c : Clause) → Rising 0 ws → gathersValues ws ≡ saysClause c → listsValues c ≡ saysEntries ws
 unfolding listsValues
 to-after-from ws c r e =
-    one-clear c (gathered-well ws c e) (saysWords (wordsOf maxMarks c))
-    ∙ ap saysWords (ap (wordsOf maxMarks) (gathered-is ws c e) ∙ to-words maxMarks ws r (gathered-below ws c e))
+    one-clear c (gathered-well ws c e) (saysEntries (entriesOf maxMarks c))
+    ∙ ap saysEntries (ap (entriesOf maxMarks) (gathered-is ws c e) ∙ to-entries maxMarks ws r (gathered-below ws c e))
 
 -- the last entry wins
 pub last-wins : (ws : List ℕ) (w : ℕ) (d : Clause) → gathersValues (ws ++ (w ∷ [])) ≡ saysClause d → getsValue d (w / 2) ≡ saysCell (some (odd w))
@@ -308,19 +298,11 @@ same-is : (c d : Clause) → sameWords c d ≡ true → c ≡ d
 unfolding sameWords
 same-is c d e = λ i. record { fixed = p i; values = q i }
   where
-    left : (a b : Bool) → a && b ≡ true → a ≡ true
-    left true b h = refl
-    left false b h = h
-
-    right : (a b : Bool) → a && b ≡ true → b ≡ true
-    right true b h = h
-    right false b h = let z : _≡_ {A = ℕ} 0 1 = ap (λ t. cond t 1 0) h in absurd (omega arith)
-
     p : c .fixed ≡ d .fixed
-    p = eqb-true (c .fixed) (d .fixed) (left (eqb (c .fixed) (d .fixed)) (eqb (c .values) (d .values)) e)
+    p = eqb-true (c .fixed) (d .fixed) (and-left (eqb (c .fixed) (d .fixed)) (eqb (c .values) (d .values)) e)
 
     q : c .values ≡ d .values
-    q = eqb-true (c .values) (d .values) (right (eqb (c .fixed) (d .fixed)) (eqb (c .values) (d .values)) e)
+    q = eqb-true (c .values) (d .values) (and-right (eqb (c .fixed) (d .fixed)) (eqb (c .values) (d .values)) e)
 
 -- equal words exactly if equal cells at every mark
 pub equal-cells : (c d : Clause) → WellFormed maxMarks c → WellFormed maxMarks d → (asksEqual c d ≡ saysTruth true) ↔ ((m : ℕ) → getsValue c m ≡ getsValue d m)

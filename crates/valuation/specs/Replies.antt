@@ -1,10 +1,9 @@
 -- The specification's number, place and values for each answer of this crate.
 use mathlib.Core.Bool.{cond}
-use mathlib.Core.List.{List, [], _∷_}
+use mathlib.Core.List.{[], _∷_}
 use Prim.Native.Nat.{ℕ}
 use Rattle.refusal.specs.Buffers.{padded}
 use Rattle.refusal.specs.Verdict.{Verdict, refused, answered, Reply, gives, refusalReply}
-use Rattle.valuation.specs.declared.Cell.{Cell}
 use Rattle.valuation.specs.declared.Cell.the-variants.{Unset, Value}
 use Rattle.valuation.specs.declared.Lookup.{Lookup}
 use Rattle.valuation.specs.declared.Lookup.the-variants as lookup

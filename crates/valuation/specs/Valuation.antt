@@ -1,12 +1,12 @@
 -- What each entry on partial valuations answers, for any words at all.
-use mathlib.Core.Bool.{Bool, true, false, cond, _&&_}
+use mathlib.Core.Bool.{Bool, cond, _&&_}
 use mathlib.Core.List.{List, [], _∷_}
 use mathlib.Core.Option.{Option, none, some}
 use Prim.Native.Nat.{ℕ, _/_}
 use lib.Dec.{eqb, leb, ltb}
 use lib.ListN.{length, getD}
 use Rattle.theory.specs.Mask.{bit}
-use Rattle.theory.specs.Clause.{Clause, malformed, cell, emptyClause, setCell, unsetCell, marksOf, lastMark, extending, wordsOf, gather}
+use Rattle.theory.specs.Clause.{Clause, malformed, cell, emptyClause, setCell, unsetCell, marksOf, lastMark, extending, entriesOf, gather}
 use Rattle.refusal.specs.Number.{VARIABLE, CLAUSE}
 use Rattle.refusal.specs.Limits.{maxMarks}
 use Rattle.refusal.specs.First.{firstFailing}
@@ -70,8 +70,8 @@ saysMark none = answered (0 ∷ []) []
 saysMark (some m) = answered (1 ∷ m ∷ []) []
 
 -- a count, then the words
-abbrev pub saysWords : List ℕ → Verdict
-saysWords ws = answered (length ws ∷ ws) []
+abbrev pub saysEntries : List ℕ → Verdict
+saysEntries ws = answered (length ws ∷ ws) []
 
 -- is_empty: yes exactly if no mark is fixed
 unfoldable pub asksEmpty : Clause → Verdict
@@ -91,7 +91,7 @@ gathersValues ws = judged (ofList ws) (saysClause (gather emptyClause ws))
 
 -- to_values: the number of fixed marks, then their words, rising
 unfoldable pub listsValues : Clause → Verdict
-listsValues c = judged (ofOne c) (saysWords (wordsOf maxMarks c))
+listsValues c = judged (ofOne c) (saysEntries (entriesOf maxMarks c))
 
 -- get_value: the cell at the mark
 unfoldable pub getsValue : Clause → ℕ → Verdict

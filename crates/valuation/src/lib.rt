@@ -10,12 +10,12 @@ ghost use mathlib.Core.Path.{_≡_};
 ghost use Prim.Native.Nat.{_<_, _^_, suc};
 ghost use lib.ListN.{length};
 ghost use Rattle.theory.specs.Mask.{bit, setBit};
-ghost use Rattle.theory.specs.Clause.{WellFormed, malformed, cell, emptyClause, setCell, unsetCell, lastMark, extending, gather, wordOf, wordsOf};
+ghost use Rattle.theory.specs.Clause.{WellFormed, malformed, cell, emptyClause, setCell, unsetCell, lastMark, extending, gather, entryOf, entriesOf};
 ghost use Rattle.refusal.specs.Limits.{maxMarks};
 ghost use Rattle.refusal.specs.Verdict.{refusalReply, replied};
 ghost use Rattle.refusal.specs.Truth.{truthReply};
 ghost use Rattle.refusal.specs.Counted.{countedReply};
-ghost use Rattle.valuation.specs.Valuation.{clauseOf, cellOf, checked, ofOne, ofMark, ofTwo, firstBadMark, sameWords, saysTruth, saysMark, saysWords};
+ghost use Rattle.valuation.specs.Valuation.{clauseOf, cellOf, checked, ofOne, ofMark, ofTwo, firstBadMark, sameWords, saysTruth, saysMark, saysEntries};
 ghost use Rattle.valuation.specs.Valuation.{asksEmpty, countsFixed, findsLast, gathersValues, listsValues, getsValue, asksValue, setsValue, unsetsValue, asksExtends, asksEqual};
 ghost use Rattle.valuation.specs.Replies.{lookupReply, updatedReply, lastFixedReply, valueListReply, repliedIn};
 
@@ -236,9 +236,9 @@ fn gather_values(values: &[u32]) -> BddPartialValuation
 }
 
 // A mark and its value as one word.
-fn word_of(mark: u32, value: bool) -> u32
+fn entry_of(mark: u32, value: bool) -> u32
     requires { ⌜ mark < maxMarks ⌝ }
-    ensures { λ r. ⌜ r ≡ wordOf mark value ⌝ }
+    ensures { λ r. ⌜ r ≡ entryOf mark value ⌝ }
 {
     if value { 2 * mark + 1 } else { 2 * mark }
 }
@@ -246,7 +246,7 @@ fn word_of(mark: u32, value: bool) -> u32
 // The words of the fixed marks, rising.
 fn list_values(v: BddPartialValuation) -> ValueList
     requires { ⌜ WellFormed maxMarks (clauseOf v) ⌝ }
-    ensures { λ r. ⌜ valueListReply r ≡ repliedIn (suc maxMarks) (saysWords (wordsOf maxMarks (clauseOf v))) ⌝ }
+    ensures { λ r. ⌜ valueListReply r ≡ repliedIn (suc maxMarks) (saysEntries (entriesOf maxMarks (clauseOf v))) ⌝ }
 {
     let mut words = [0u32; 60];
     let mut count: usize = 0;
@@ -254,7 +254,7 @@ fn list_values(v: BddPartialValuation) -> ValueList
     while rest != 0 {
         let mark = u64::trailing_zeros(rest);
         let id = BddVariable(mark as u16);
-        words[count] = word_of(mark, has_bit(v.values, id));
+        words[count] = entry_of(mark, has_bit(v.values, id));
         count += 1;
         rest = set_bit(rest, id, false);
     }

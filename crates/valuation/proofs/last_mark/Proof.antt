@@ -1,6 +1,5 @@
 -- `last_mark`: nothing, or the mark below the leading zeros.
 use borrow.Author.Needs.{needs}
-use native.Mathlib.Omega.{arith}
 use Rattle.valuation.proofs.Answers.{last-nothing, last-variable, leading-below}
 use Rattle.valuation.proofs.last_mark.Statement.{statement}
 use Rattle.valuation.proofs.last_mark.Tie as tie

@@ -1,6 +1,6 @@
 -- `set_bit`: by an or with the mark's power of two, or an and with the other bits.
 use borrow.Author.Needs.{needs}
-use mathlib.Core.Path.{_≡_, sym, ap, _∙_}
+use mathlib.Core.Path.{sym, ap, _∙_}
 use Prim.Native.Nat.{_-_, _^_}
 use lib.Bits.{bitAnd, bitOr}
 use Rattle.theory.specs.Mask.{setBit}
