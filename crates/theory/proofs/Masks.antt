@@ -127,20 +127,24 @@ and-cond true false = refl
 and-cond false true = refl
 and-cond false false = refl
 
--- a bit is set by an or with its power of two, and cleared by an and with the others
-pub or-setBit : (k m c : ℕ) → m < k → c < 2 ^ k → bitOr c (2 ^ m) ≡ setBit m true c
-or-setBit k m c h l =
-    bit-ext k (bitOr c (2 ^ m)) (setBit m true c) (or-lt k c (2 ^ m) l (pow-lt h)) (setBit-lt k m true c h l)
-    (λ i d. bit-or i c (2 ^ m) ∙ ap (λ t. bit i c || t) (bit-pow i m) ∙ or-cond (bit i c) (eqb i m) ∙ sym (bit-setBit i m true c))
+-- a one shifted up by less than the width
+shifted-one : (k m : ℕ) → m < k → 1 * 2 ^ m % 2 ^ k ≡ 2 ^ m
+shifted-one k m h = shl-exact 1 m k (omega arith) (omega arith) ∙ (let e : 1 * 2 ^ m ≡ 2 ^ m = omega arith in e)
 
-pub and-setBit : (k m c : ℕ) → m < k → c < 2 ^ k → bitAnd c (2 ^ k - 1 - 2 ^ m) ≡ setBit m false c
-and-setBit k m c h l =
+-- in k bits: a bit is set by an or with a one shifted to it, and cleared by an and with its complement
+pub or-setBit : (k m c : ℕ) {b : Bool} → b ≡ true → m < k → c < 2 ^ k → bitOr c (1 * 2 ^ m % 2 ^ k) ≡ setBit m b c
+or-setBit k m c e h l =
+    rw e
+    (ap (bitOr c) (shifted-one k m h)
+    ∙ bit-ext k (bitOr c (2 ^ m)) (setBit m true c) (or-lt k c (2 ^ m) l (pow-lt h)) (setBit-lt k m true c h l)
+    (λ i d. bit-or i c (2 ^ m) ∙ ap (λ t. bit i c || t) (bit-pow i m) ∙ or-cond (bit i c) (eqb i m) ∙ sym (bit-setBit i m true c)))
+
+pub and-setBit : (k m c : ℕ) {b : Bool} → b ≡ false → m < k → c < 2 ^ k → bitAnd c (2 ^ k - 1 - 1 * 2 ^ m % 2 ^ k) ≡ setBit m b c
+and-setBit k m c e h l =
     let p : 2 ^ m < 2 ^ k = pow-lt h in
-    bit-ext k (bitAnd c (2 ^ k - 1 - 2 ^ m)) (setBit m false c) (and-lt k c (2 ^ k - 1 - 2 ^ m) l (omega arith)) (setBit-lt k m false c h l)
+    rw e
+    (ap (λ x. bitAnd c (2 ^ k - 1 - x)) (shifted-one k m h)
+    ∙ bit-ext k (bitAnd c (2 ^ k - 1 - 2 ^ m)) (setBit m false c) (and-lt k c (2 ^ k - 1 - 2 ^ m) l (omega arith)) (setBit-lt k m false c h l)
     (λ i d. bit-and i c (2 ^ k - 1 - 2 ^ m) ∙ ap (λ t. bit i c && t) (bit-not k i (2 ^ m) d p ∙ ap not (bit-pow i m))
     ∙ and-cond (bit i c) (eqb i m)
-    ∙ sym (bit-setBit i m false c))
-
--- a one shifted up by less than the width
-pub shifted-one : (k m : ℕ) → m < k → 1 * 2 ^ m % 2 ^ k ≡ 2 ^ m
-shifted-one k m h = shl-exact 1 m k (omega arith) (omega arith) ∙ (let e : 1 * 2 ^ m ≡ 2 ^ m = omega arith in e)
+    ∙ sym (bit-setBit i m false c)))

@@ -17,7 +17,7 @@ pub record Clause : Type 0 where
 unfoldable pub malformed : ℕ → ℕ → ℕ → Bool
 malformed n fixed values = leb (2 ^ n) fixed || not (eqb (bitOr fixed values) fixed)
 
--- the same by bits: no bit from n up, no value bit outside fixed
+-- not malformed, bit by bit: no bit from n up, no value bit outside fixed
 pub record WellFormed (n : ℕ) (c : Clause) : Type 0 where
   pub small : c .fixed < 2 ^ n
   pub small-values : c .values < 2 ^ n

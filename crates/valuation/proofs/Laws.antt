@@ -1,16 +1,18 @@
 -- Laws that a user of partial valuations expects. Each is about the verdicts that the entries' contracts cite.
 use mathlib.Core.Path.{_≡_, refl, sym, ap, _∙_}
 use mathlib.Core.Logic.{_≢_, _↔_}
-use mathlib.Core.Bool.{Bool, true, false, cond, _&&_}
+use mathlib.Core.Bool.{Bool, true, false, cond}
 use mathlib.Core.List.{List, [], _∷_, _++_}
 use mathlib.Core.Option.{Option, none, some}
 use Prim.Native.Nat.{ℕ, _+_, _/_, _<_}
 use native.Mathlib.Omega.{arith}
 use lib.Dec.{eqb, ltb}
 use lib.ListN.{length, getD, length-append}
+use lib.Pow.{pow-pos}
 use lib.Seq.{getD-append-seam}
 use borrow.Author.Tests.{eq-eqb, ne-eqb, eqb-true, lt-leb, lt-ltb}
 use Rattle.theory.specs.Mask.{odd, bit}
+use Rattle.theory.proofs.Masks.{bit-zero, bit-ext}
 use Rattle.theory.specs.Clause.{Clause, WellFormed, cell, emptyClause, extending, entriesOf, gather}
 use Rattle.theory.proofs.Clauses.{isSet, cell-fixed, and-left, and-right, not-malformed, putCell, putCell-formed, cell-putCell, putCell-twice, putCell-idle, cell-ext, empty-formed, extending-self, extending-both, extending-antisym, extending-cells}
 use Rattle.theory.proofs.Gathers.{MarksBelow, gather-last, gather-formed, entries-below, from-entries, Rising, to-entries}
@@ -21,8 +23,9 @@ use Rattle.refusal.specs.declared.Refusal.{Refusal}
 use Rattle.refusal.proofs.Firsts.{first-none}
 use Rattle.refusal.proofs.Judged.{judged-answer}
 use Rattle.valuation.specs.Valuation.{ofOne, ofMark, ofTwo, ofList, firstBadMark, saysTruth, saysClause, saysCell, saysEntries, sameWords}
-use Rattle.valuation.specs.Valuation.{gathersValues, listsValues, getsValue, asksValue, setsValue, unsetsValue, asksExtends, asksEqual}
+use Rattle.valuation.specs.Valuation.{asksEmpty, gathersValues, listsValues, getsValue, asksValue, setsValue, unsetsValue, asksExtends, asksEqual}
 use Rattle.valuation.proofs.Checks.{one-formed, mark-below, mark-formed, two-formed, list-good}
+use Rattle.valuation.proofs.Answers.{cell-none}
 use Rattle.valuation.proofs.Gathering.{passed-all, all-below}
 
 -- ---- calls that are not refused
@@ -187,6 +190,23 @@ unfolding asksValue
 has-as-get c m o e =
     found-clear c m o e (saysTruth (bit m (c .fixed)))
     ∙ ap saysTruth (sym (cell-fixed c m) ∙ ap isSet (found-cell c m o e))
+
+-- a valuation is empty exactly if every cell is unset
+pub empty-unset : (c : Clause) → WellFormed maxMarks c → (asksEmpty c ≡ saysTruth true) ↔ ((m : ℕ) → m < maxMarks → getsValue c m ≡ saysCell none)
+unfolding asksEmpty getsValue
+empty-unset c w = (forth, back)
+  where
+    forth : judged (ofOne c) (saysTruth (eqb (c .fixed) 0)) ≡ saysTruth true → (m : ℕ) → m < maxMarks → judged (ofMark c m) (saysCell (cell c m)) ≡ saysCell none
+    forth e m h =
+        let zero : c .fixed ≡ 0 = eqb-true (c .fixed) 0 (truth-is (eqb (c .fixed) 0) true (sym (one-clear c w (saysTruth (eqb (c .fixed) 0))) ∙ e)) in
+        mark-clear c m h w (saysCell (cell c m)) ∙ ap saysCell (sym (cell-none c m (ap (bit m) zero ∙ bit-zero m)))
+
+    back : ((m : ℕ) → m < maxMarks → judged (ofMark c m) (saysCell (cell c m)) ≡ saysCell none) → judged (ofOne c) (saysTruth (eqb (c .fixed) 0)) ≡ saysTruth true
+    back all =
+        let zero : c .fixed ≡ 0 =
+        bit-ext maxMarks (c .fixed) 0 (w .small) (pow-pos maxMarks)
+        (λ m h. sym (cell-fixed c m) ∙ ap isSet (cell-is (cell c m) none (sym (mark-clear c m h w (saysCell (cell c m))) ∙ all m h)) ∙ sym (bit-zero m)) in
+        one-clear c w (saysTruth (eqb (c .fixed) 0)) ∙ ap saysTruth (eq-eqb (c .fixed) 0 zero)
 
 -- ---- from_values and to_values
 
