@@ -14,11 +14,10 @@ shr-if1 : tie.Need-shr-if1
 shr-if1 c = search needs
 
 returns : tie.Need-returns
-returns c =
-    sym (malformed-high maxMarks (c .before .before .args .v .fixed) (c .before .before .args .v .values) (omega (arith, c .if1 .taken)))
+returns c = sym (malformed-high maxMarks _ _ (omega (arith, c .if1 .taken)))
 
 returns-2 : tie.Need-returns-2
-returns-2 c = sym (malformed-low maxMarks (c .before .before .before .before .args .v .fixed) (c .before .before .before .before .args .v .values) (omega (arith, c .before .before .if1 .left)))
+returns-2 c = sym (malformed-low maxMarks _ _ (omega (arith, c .before .before .if1 .left)))
 
 pub is-malformed-spec : {M : Type 1} → statement M
 is-malformed-spec = tie.close (tie.spec cast-if1 shr-if1 returns returns-2)
