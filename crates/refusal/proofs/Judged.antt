@@ -1,17 +1,89 @@
--- Taking an admission's answer apart: what a refusal says of the whole call, and what a pass says of each finding.
-use mathlib.Core.Path.{_≡_, refl, sym, ap, _∙_}
-use mathlib.Core.Logic.{_⊎_, inl, inr}
+-- The order of checking: some finding refuses whatever the answer would be, or none does; and what an admission's answer says of the whole call.
+use mathlib.Core.Path.{_≡_, refl, sym, ap, ap₂, _∙_}
+use mathlib.Core.Logic.{_≢_, _⊎_, inl, inr}
 use mathlib.Core.Bool.{Bool, true, false, cond, _&&_}
 use mathlib.Core.List.{List, [], _∷_}
 use Prim.Native.Nat.{ℕ}
 use native.Mathlib.Omega.{arith}
+use native.Mathlib.Decide.{ℕ-discrete}
 use lib.Dec.{eqb}
-use borrow.Author.Tests.{eqb-true}
+use borrow.Author.Tests.{eq-eqb, ne-eqb, eqb-true}
 use Rattle.refusal.specs.Number.{order}
 use Rattle.refusal.specs.Buffers.{zeroing}
-use Rattle.refusal.specs.Verdict.{Verdict, refused, answered, Finding, firstOf, tried, judged, replied, refusedWith, gives, refusalReply}
+use Rattle.refusal.specs.Verdict.{Verdict, refused, answered, Finding, firstOf, tried, judged, Reply, replied, refusedWith, gives, refusalReply}
 use Rattle.refusal.specs.declared.Refusal.{Refusal}
 use Rattle.refusal.proofs.Single.{no-values}
+
+-- what findings do to every answer: they refuse with one number and place, or leave it
+data Fate (f : Verdict → Verdict) : Type 0 where
+  stopped : (k p : ℕ) → k ≢ 0 → ((v : Verdict) → f v ≡ refused k p) → Fate f
+  left : ((v : Verdict) → f v ≡ v) → Fate f
+
+first-fate : (k : ℕ) → k ≢ 0 → (fs : List Finding) → Fate (firstOf k fs)
+unfolding firstOf
+first-fate k h [] = left (λ v. refl)
+first-fate k h (f ∷ fs) = elim (eqb (f .number) k && f .so) as (λ b. Fate (λ v. cond b (refused k (f .place)) (firstOf k fs v))) [
+  | true ↦ stopped k (f .place) h (λ v. refl)
+  | false ↦ first-fate k h fs
+]
+
+joined : (f g : Verdict → Verdict) → Fate f → Fate g → Fate (λ v. f (g v))
+joined f g (stopped k p h e) r = stopped k p h (λ v. e (g v))
+joined f g (left e) (stopped k p h d) = stopped k p h (λ v. e (g v) ∙ d v)
+joined f g (left e) (left d) = left (λ v. e (g v) ∙ d v)
+
+-- a number of checking is not 0: that is an answer's
+abbrev positive : List ℕ → Bool
+positive [] = true
+positive (k ∷ ks) = cond (eqb k 0) false (positive ks)
+
+tried-fate : (ks : List ℕ) → positive ks ≡ true → (fs : List Finding) → Fate (tried ks fs)
+unfolding tried
+tried-fate [] h fs = left (λ v. refl)
+tried-fate (k ∷ ks) h fs = elim (ℕ-discrete k 0) [
+  | yes e ↦ absurd (no-truth (sym (ap (λ t. cond t false (positive ks)) (eq-eqb k 0 e)) ∙ h))
+  | no e ↦
+      joined (firstOf k fs) (tried ks fs) (first-fate k e fs)
+      (tried-fate ks (sym (ap (λ t. cond t false (positive ks)) (ne-eqb k 0 e)) ∙ h) fs)
+]
+  where
+    no-truth : false ≡ true → ⊥
+    no-truth e = let z : _≡_ {A = ℕ} 0 1 = ap (λ t. cond t 1 0) e in omega arith
+
+judged-fate : (fs : List Finding) → Fate (judged fs)
+unfolding judged order
+judged-fate fs = tried-fate order refl fs
+
+-- a check answers nothing by itself; where it refuses, so does every call with the same findings, and else the call answers
+pub judged-refuses : (fs : List Finding) (v : Verdict) (r : Refusal) → refusalReply r ≡ replied (judged fs (answered [] [])) → r .number ≢ 0 → judged fs v ≡ refused (r .number) (r .place)
+unfolding replied
+judged-refuses fs v r e h = elim (judged-fate fs) [
+  | stopped k p d s ↦
+      let q : refusalReply r ≡ replied (refused k p) = e ∙ ap replied (s (answered [] [])) in
+      s v ∙ sym (ap₂ refused (ap (λ (x : Reply). x .number) q) (ap (λ (x : Reply). x .place) q))
+  | left s ↦ absurd (h (ap (λ (x : Reply). x .number) (e ∙ ap replied (s (answered [] [])))))
+]
+
+pub judged-stops : (fs : List Finding) (v : Verdict) (r : Refusal) → refusalReply r ≡ replied (judged fs (answered [] [])) → r .number ≢ 0 → refusalReply r ≡ replied (judged fs v)
+unfolding replied
+judged-stops fs v r e h = ap replied (sym (judged-refuses fs v r e h))
+
+pub judged-goes : (fs : List Finding) (v : Verdict) (r : Refusal) → refusalReply r ≡ replied (judged fs (answered [] [])) → r .number ≡ 0 → judged fs v ≡ v
+unfolding replied
+judged-goes fs v r e h = elim (judged-fate fs) [
+  | stopped k p d s ↦ absurd (d (sym (ap (λ (x : Reply). x .number) (e ∙ ap replied (s (answered [] [])))) ∙ h))
+  | left s ↦ s v
+]
+
+pub judged-answers : (fs : List Finding) (v : Verdict) (r : Refusal) → refusalReply r ≡ replied (judged fs (answered [] [])) → r .number ≡ 0 → (x : Reply) → x ≡ replied v → x ≡ replied (judged fs v)
+judged-answers fs v r e h x a = a ∙ ap replied (sym (judged-goes fs v r e h))
+
+-- a call that answers was not refused: it answers what it would without the findings, and so does every call with the same findings
+pub judged-answer : (fs : List Finding) (v : Verdict) (vs : List ℕ) (outs : List (List ℕ)) → judged fs v ≡ answered vs outs → (u : Verdict) → judged fs u ≡ u
+judged-answer fs v vs outs e = elim (judged-fate fs) [
+  | stopped k p d s ↦ let z : _≡_ {A = ℕ} 0 1 = cc (s v) in absurd (omega arith)
+  | left s ↦ s
+]
 
 -- a rule that puts a refusal before a verdict: it lets every verdict pass, or refuses whatever comes
 pub record Caught (rule : Verdict → Verdict) : Type 0 where
@@ -22,31 +94,12 @@ pub record Caught (rule : Verdict → Verdict) : Type 0 where
 abbrev pub Clean : (Verdict → Verdict) → Type 0
 Clean rule = (v : Verdict) → rule v ≡ v
 
-module _ (k : ℕ) where
-  first-either : (fs : List Finding) → Clean (firstOf k fs) ⊎ Caught (firstOf k fs)
-  unfolding firstOf
-  first-either [] = inl (λ v. refl)
-  first-either (f ∷ fs) =
-      elim (eqb (f .number) k && f .so) as (λ b. Clean (λ v. cond b (refused k (f .place)) (firstOf k fs v)) ⊎ Caught (λ v. cond b (refused k (f .place)) (firstOf k fs v))) [
-        | true ↦ inr (record { number = k; place = f .place; always = λ v. refl })
-        | false ↦ first-either fs
-      ]
-
-tried-either : (ks : List ℕ) (fs : List Finding) → Clean (tried ks fs) ⊎ Caught (tried ks fs)
-unfolding tried
-tried-either [] fs = inl (λ v. refl)
-tried-either (k ∷ ks) fs = elim (first-either k fs) [
-  | inr c ↦ inr (record { number = c .number; place = c .place; always = λ v. c .always (tried ks fs v) })
-  | inl e ↦ elim (tried-either ks fs) [
-    | inl d ↦ inl (λ v. e (tried ks fs v) ∙ d v)
-    | inr c ↦ inr (record { number = c .number; place = c .place; always = λ v. e (tried ks fs v) ∙ c .always v })
-  ]
-]
-
 -- what is found wrong does not depend on the answer that it keeps back
 pub judged-either : (fs : List Finding) → Clean (judged fs) ⊎ Caught (judged fs)
-unfolding judged
-judged-either fs = tried-either order fs
+judged-either fs = elim (judged-fate fs) [
+  | stopped k p d s ↦ inr (record { number = k; place = p; always = s })
+  | left s ↦ inl s
+]
 
 -- a call that was refused in its admission is refused in the same way whatever it would have answered
 pub refusal-stays : (fs : List Finding) (r : Refusal) (a : ℕ) (more : List ℕ) (outs : List (List ℕ))

@@ -8,6 +8,7 @@ use lib.Pow.{pow-add}
 use Rattle.theory.specs.Mask.{odd, bit}
 use Rattle.theory.specs.Tree.{Tree, Deep, look, caseCount, lifted}
 use Rattle.theory.specs.Table.{node, Table, at, step, treeOf, truth, says, walk, Good}
+use Rattle.theory.proofs.Masks.{bit-shift}
 use Rattle.theory.proofs.Step.{step-here, step-skip}
 use Rattle.theory.proofs.Again.{walk-skip}
 use Rattle.theory.proofs.Cases.{says-look}
@@ -49,13 +50,6 @@ lifted-walk n (suc j) k t d l e s g =
     ∙ lifted-walk n j k t d (suc l) (omega arith) s g
     ∙ ap (λ m. walk s m t) (omega arith)
 
-pub bit-shift : (i c : ℕ) → odd (c / 2 ^ i) ≡ bit i c
-unfolding bit
-bit-shift zero c = ap odd (div-one c)
-bit-shift (suc i) c =
-    let e : 2 ^ suc i ≡ 2 * 2 ^ i = omega arith in
-    ap odd (ap (λ d. c / d) e ∙ sym (div-div-eq-div-mul c 2 (2 ^ i))) ∙ bit-shift i (c / 2)
-
 -- what a node says of a case, by its own mark: the loop of an evaluation
 pub nodeSays : ℕ → Table → ℕ → ℕ → Bool
 nodeSays n s p c = says (n - (at s p) .mark) s ((at s p) .mark) p (c / 2 ^ (at s p) .mark)
@@ -91,7 +85,7 @@ nodeSays-step n s p c h q e k m =
     l = (at s p) .mark
 
     to : step s l (odd (c / 2 ^ l)) p ≡ q
-    to = step-here s l (odd (c / 2 ^ l)) p refl ∙ ap (λ b. cond b ((at s p) .high) ((at s p) .low)) (bit-shift l c) ∙ sym e
+    to = step-here s l (odd (c / 2 ^ l)) p refl ∙ ap (λ b. cond b ((at s p) .high) ((at s p) .low)) (sym (bit-shift l c)) ∙ sym e
 
     go : (x : ℕ) → n - l ≡ suc x → says (n - l) s l p (c / 2 ^ l) ≡ says x s (suc l) q (c / 2 ^ suc l)
     go x a = ap (λ y. says y s l p (c / 2 ^ l)) a ∙ ap₂ (says x s (suc l)) to (shift-add c l 1 ∙ ap (λ y. c / 2 ^ y) (omega arith))

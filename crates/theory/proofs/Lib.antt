@@ -13,3 +13,6 @@ pub mod Words
 pub mod Ordering
 pub mod Reducing
 pub mod Trailing
+pub mod Marks
+pub mod Clauses
+pub mod Gathers

@@ -1,4 +1,5 @@
-use Rattle.theory.proofs.Levels.{bit-shift}
+use mathlib.Core.Path.{sym}
+use Rattle.theory.proofs.Masks.{bit-shift}
 use borrow.Author.Needs.{needs}
 use Rattle.table.proofs.bit_of.Statement.{statement}
 use Rattle.table.proofs.bit_of.Tie as tie
@@ -10,7 +11,7 @@ shr-result : tie.Need-shr-result
 shr-result c = search needs
 
 returns : tie.Need-returns
-returns c = bit-shift _ _
+returns c = sym (bit-shift _ _)
 
 pub bit-of-spec : {M : Type 1} → statement M
 bit-of-spec = tie.close (tie.spec cast-result shr-result returns)

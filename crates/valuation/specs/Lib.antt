@@ -1,0 +1,2 @@
+pub mod Valuation
+pub mod Replies
