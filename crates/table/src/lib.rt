@@ -128,7 +128,7 @@ fn first_bad(n: u16, count: usize, bdd: &[u32]) -> usize
     count
 }
 
-fn over_limit(n: u16, count: usize) -> bool
+pub fn over_limit(n: u16, count: usize) -> bool
     ensures { λ r. ⌜ r ≡ overLimit n count ⌝ }
 {
     if n > MAX_MARKS {
@@ -140,7 +140,7 @@ fn over_limit(n: u16, count: usize) -> bool
     count > MAX_NODES
 }
 
-fn too_short(count: usize, bdd: &[u32]) -> bool
+pub fn too_short(count: usize, bdd: &[u32]) -> bool
     requires { ⌜ count ≤ maxNodes ⌝ }
     ensures { λ r. ⌜ r ≡ tooShort count (now (bdd .entry)) ⌝ }
 {
@@ -148,7 +148,7 @@ fn too_short(count: usize, bdd: &[u32]) -> bool
 }
 
 // The last of a table's tests: its root, where every node is as ordered asks.
-fn ordered_root(n: u16, count: usize, bdd: &[u32]) -> Inspection
+pub fn ordered_root(n: u16, count: usize, bdd: &[u32]) -> Inspection
     requires { ⌜ (1 ≤ count) × (count ≤ maxNodes) × (stride * count ≤ length (now bdd)) ⌝ }
     ensures { λ r. ⌜ inspectionReply r ≡ replied (roots n count (now (bdd .entry))) ⌝ }
 {
@@ -162,7 +162,7 @@ fn ordered_root(n: u16, count: usize, bdd: &[u32]) -> Inspection
     Inspection::Sound(BddPointer((count - 1) as u32))
 }
 
-fn refused(number: u8) -> Inspection
+pub fn refused(number: u8) -> Inspection
     ensures { λ r. ⌜ inspectionReply r ≡ refusedWith number 0 ⌝ }
 {
     Inspection::Refused(Refusal { number, place: 0 })
