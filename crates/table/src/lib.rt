@@ -5,7 +5,6 @@ ghost use Prim.Native.Nat.{ℕ, _+_, _*_, _-_, _<_, _≤_};
 ghost use lib.ListN.{length, getD};
 ghost use Rattle.theory.specs.Table.{Node, node, same, linkOk, nodeOk};
 ghost use Rattle.theory.specs.Words.{stride, nodeAt, nodes};
-ghost use Rattle.theory.specs.Mask.{bit};
 ghost use Rattle.refusal.specs.Limits.{maxMarks, maxNodes};
 ghost use Rattle.refusal.specs.Verdict.{replied, refusedWith};
 ghost use Rattle.refusal.specs.Truth.{truthReply};
@@ -228,20 +227,12 @@ pub fn refusal_of(inspection: Inspection) -> Refusal
     }
 }
 
-// The case's bit at a mark.
-fn bit_of(case: u64, variable: BddVariable) -> bool
-    requires { ⌜ variable .0 ≤ maxMarks ⌝ }
-    ensures { λ r. ⌜ r ≡ bit (variable .0) case ⌝ }
-{
-    (case >> variable.0) % 2 == 1
-}
-
 // The child to which the case leads from node p.
 fn child_for(bdd: &[u32], p: BddPointer, case: u64) -> BddPointer
     requires { ⌜ (stride * p .0 + 2 < length (now bdd)) × ((nodeAt (now bdd) (p .0)) .mark ≤ maxMarks) ⌝ }
     ensures { λ r. ⌜ r .0 ≡ childFor (nodeAt (now (bdd .entry)) (p .0)) case ⌝ }
 {
-    if bit_of(case, var_of(bdd, p)) {
+    if valuation::has_bit(case, var_of(bdd, p)) {
         high_link_of(bdd, p)
     } else {
         low_link_of(bdd, p)
