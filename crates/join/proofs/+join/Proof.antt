@@ -1,0 +1,113 @@
+use Prim.Native.Nat.{_-_, _+_}
+use native.Mathlib.Omega.{arith}
+use Rattle.join.specs.Joining.{taskOf, Parted, Joined}
+use Rattle.join.proofs.JoinLaws.{splitting, step-known, step-parted, deeper, next-fits, low-ready, side-full, side-got, low-full, high-ready, high-full, settling, finish}
+use borrow.Author.Needs.{needs}
+use Prim.Native.Nat.{ℕ, _<_}
+use borrow.Fn.Kinds.{In}
+use borrow.Fn.PlainCycle.{Measures, is, falls, and}
+use Rattle.join.proofs.join.Reads as join
+use Rattle.join.proofs.join.Kinds as join-kinds
+use Rattle.join.proofs.+join.Lts-join as join-lts
+use Rattle.join.proofs.known_of.Reads as known-of-reads
+use Rattle.join.proofs.settle.Reads as settle-reads
+use Rattle.join.proofs.split.Reads as split-reads
+use Rattle.join.proofs.+join.{statement}
+use Rattle.join.proofs.+join.Tie.{close}
+
+abbrev μ : Measures 4 join-kinds.ps ℕ
+μ κs a = a .1 .1 .1 .1 .0 .n - a .1 .1 .1 .1 .1 .0 .0
+
+abbrev at : ℕ → In 4 join-kinds.ps
+at t = and 4 join-kinds.ps (is 4 join-kinds.ps μ t) join.Pre
+
+abbrev below : ℕ → In 4 join-kinds.ps
+below t = and 4 join-kinds.ps (falls 4 join-kinds.ps _<_ μ t) join.Pre
+
+abbrev told : ℕ → join-lts.Claims
+told t = (split-reads.Asked, split-reads.Learnt, known-of-reads.Asked, known-of-reads.Learnt, below t, join.Post, settle-reads.Asked, settle-reads.Learnt)
+
+module _ (t : ℕ) where
+  -- the pair is split
+  cut-parted : (c : join-lts.After-known-told (told t) (at t) join.Post) → Parted (taskOf (c .before .before .before .before .before .before .before .before .before .args .a .now) (c .before .before .before .before .before .before .before .before .before .args .b .now) (c .before .before .before .before .before .before .before .before .before .args .job)) (c .before .before .before .before .before .before .before .before .before .args .pair .left .0) (c .before .before .before .before .before .before .before .before .before .args .pair .right .0) (c .before .step .given .0 .0)
+  cut-parted c = step-parted _ _ _ _ _ _ _ _ _ (c .before .before .before .before .before .before .before .before .before .pre .1) _ (c .before .before .before .split .ensures) _ (c .before .step .given .1)
+
+  -- the low pair's answer
+  low-is : (c : join-lts.After-known-told2 (told t) (at t) join.Post) → Joined (c .before .before .before .before .before .before .before .before .before .before .before .before .before .before .before .before .before .before .before .before .args .a .now) (c .before .before .before .before .before .before .before .before .before .before .before .before .before .before .before .before .before .before .before .before .args .b .now) (c .before .before .before .before .before .before .before .before .before .before .before .before .before .before .before .before .before .before .before .before .args .out .now) (c .before .before .before .before .before .before .before .join .last .1 .1 .0) (c .before .before .before .before .before .before .before .join .last .1 .1 .1 .0) (c .before .before .before .before .before .before .before .before .before .before .before .before .before .before .before .before .before .before .before .before .args .job) (c .before .before .before .before .before .before .before .before .before .before .before .before .step .given .0 .0 .level .0 + 1) (c .before .before .before .before .before .before .before .before .before .before .before .before .before .before .before .before .before .before .before .before .args .count) (c .before .before .before .before .before .before .before .before .before .before .before .before .step .given .0 .0 .low .left .0) (c .before .before .before .before .before .before .before .before .before .before .before .before .step .given .0 .0 .low .right .0) (c .before .low .given .0 .0 .0) (c .before .low .given .0 .1 .0)
+  low-is c = side-got _ _ _ _ _ _ _ _ _ (c .before .before .before .before .before .before .before .before .before .before .before .before .before .before .before .before .before .before .before .before .pre .1) _ (cut-parted (c .before .before .before .before .before .before .before .before .before .before .before)) _ _ _ _ _ _ (c .before .before .before .before .before .before .before .join .ensures) _ _ (c .before .low .given .1)
+
+  -- the high pair's answer
+  high-is : (c : join-lts.After-known-told3 (told t) (at t) join.Post) → Joined (c .before .before .before .before .before .before .before .before .before .before .before .before .before .before .before .before .before .before .before .before .before .before .before .before .before .before .before .before .before .before .args .a .now) (c .before .before .before .before .before .before .before .before .before .before .before .before .before .before .before .before .before .before .before .before .before .before .before .before .before .before .before .before .before .before .args .b .now) (c .before .before .before .before .before .before .before .before .before .before .before .before .before .before .before .before .before .join .last .1 .1 .0) (c .before .before .before .before .before .before .before .join2 .last .1 .1 .0) (c .before .before .before .before .before .before .before .join2 .last .1 .1 .1 .0) (c .before .before .before .before .before .before .before .before .before .before .before .before .before .before .before .before .before .before .before .before .before .before .before .before .before .before .before .before .before .before .args .job) (c .before .before .before .before .before .before .before .before .before .before .before .before .before .before .before .before .before .before .before .before .before .before .step .given .0 .0 .level .0 + 1) (c .before .before .before .before .before .before .before .before .before .before .before .low .given .0 .1 .0) (c .before .before .before .before .before .before .before .before .before .before .before .before .before .before .before .before .before .before .before .before .before .before .step .given .0 .0 .high .left .0) (c .before .before .before .before .before .before .before .before .before .before .before .before .before .before .before .before .before .before .before .before .before .before .step .given .0 .0 .high .right .0) (c .before .high .given .0 .0 .0) (c .before .high .given .0 .1 .0)
+  high-is c = side-got _ _ _ _ _ _ _ _ _ (c .before .before .before .before .before .before .before .before .before .before .before .before .before .before .before .before .before .before .before .before .before .before .before .before .before .before .before .before .before .before .pre .1) _ (cut-parted (c .before .before .before .before .before .before .before .before .before .before .before .before .before .before .before .before .before .before .before .before .before)) _ _ _ _ _ _ (c .before .before .before .before .before .before .before .join2 .ensures) _ _ (c .before .high .given .1)
+
+  split-requires : join-lts.Need-split-requires (told t) (at t) join.Post
+  split-requires c κs = splitting _ _ _ _ _ _ _ _ _ (c .before .before .before .before .before .pre .1)
+
+  enum-known-step : join-lts.Need-enum-known-step (told t) (at t) join.Post
+  enum-known-step c = search needs
+
+  enum-told : join-lts.Need-enum-told (told t) (at t) join.Post
+  enum-told c = search needs
+
+  known-of-requires : join-lts.Need-known-of-requires (told t) (at t) join.Post
+  known-of-requires c κs = search needs
+
+  same-length : join-lts.Need-same-length (told t) (at t) join.Post
+  same-length c = search needs
+
+  returns : join-lts.Need-returns (told t) (at t) join.Post
+  returns c = step-known _ _ _ _ _ _ _ _ _ (c .before .before .before .before .before .before .before .before .before .pre .1) _ (c .before .before .before .split .ensures) _ (c .before .enum-told .given .1) _ (c .known-of .ensures)
+
+  add-t21 : join-lts.Need-add-t21 (told t) (at t) join.Post
+  add-t21 c = record { fits = omega (arith, next-fits _ _ _ _ _ _ _ _ _ (c .before .before .before .before .before .before .before .before .before .before .pre .1) _ (cut-parted (c .before)), c .before .before .before .before .before .before .before .before .before .before .pre .1 .operands .left .marks) }
+
+  join-requires : join-lts.Need-join-requires (told t) (at t) join.Post
+  join-requires c κs = (omega (arith, c .before .before .before .before .before .before .before .before .before .before .before .before .pre .0, deeper _ _ _ _ _ _ _ _ _ (c .before .before .before .before .before .before .before .before .before .before .before .before .pre .1) _ (cut-parted (c .before .before .before))), low-ready _ _ _ _ _ _ _ _ _ (c .before .before .before .before .before .before .before .before .before .before .before .before .pre .1) _ (cut-parted (c .before .before .before)))
+
+  enum-known-low : join-lts.Need-enum-known-low (told t) (at t) join.Post
+  enum-known-low c = search needs
+
+  enum-told-2 : join-lts.Need-enum-told-2 (told t) (at t) join.Post
+  enum-told-2 c = search needs
+
+  same-length-2 : join-lts.Need-same-length-2 (told t) (at t) join.Post
+  same-length-2 c = search needs
+
+  same-length-3 : join-lts.Need-same-length-3 (told t) (at t) join.Post
+  same-length-3 c = search needs
+
+  returns-2 : join-lts.Need-returns-2 (told t) (at t) join.Post
+  returns-2 c = low-full _ _ _ _ _ _ _ _ _ (c .before .before .before .before .before .before .before .before .before .before .before .before .before .before .before .before .before .before .before .pre .1) _ (cut-parted (c .before .before .before .before .before .before .before .before .before .before)) (side-full _ _ _ _ _ _ _ _ _ (c .before .before .before .before .before .before .before .before .before .before .before .before .before .before .before .before .before .before .before .pre .1) _ (cut-parted (c .before .before .before .before .before .before .before .before .before .before)) _ _ _ _ _ _ (c .before .before .before .before .before .before .join .ensures) (c .enum-told2 .given .1))
+
+  join-requires-2 : join-lts.Need-join-requires-2 (told t) (at t) join.Post
+  join-requires-2 c κs = (omega (arith, c .before .before .before .before .before .before .before .before .before .before .before .before .before .before .before .before .before .before .before .before .before .before .pre .0, deeper _ _ _ _ _ _ _ _ _ (c .before .before .before .before .before .before .before .before .before .before .before .before .before .before .before .before .before .before .before .before .before .before .pre .1) _ (cut-parted (c .before .before .before .before .before .before .before .before .before .before .before .before .before))), high-ready _ _ _ _ _ _ _ _ _ (c .before .before .before .before .before .before .before .before .before .before .before .before .before .before .before .before .before .before .before .before .before .before .pre .1) _ (cut-parted (c .before .before .before .before .before .before .before .before .before .before .before .before .before)) _ _ _ _ (c .before .before .before .before .before .before .before .before .before .join .kept .1 .1 .0) (c .before .before .before .before .before .before .before .before .before .join .kept .1 .1 .1 .0) (low-is (c .before .before)))
+
+  enum-known-high : join-lts.Need-enum-known-high (told t) (at t) join.Post
+  enum-known-high c = search needs
+
+  enum-told-3 : join-lts.Need-enum-told-3 (told t) (at t) join.Post
+  enum-told-3 c = search needs
+
+  same-length-4 : join-lts.Need-same-length-4 (told t) (at t) join.Post
+  same-length-4 c = search needs
+
+  same-length-5 : join-lts.Need-same-length-5 (told t) (at t) join.Post
+  same-length-5 c = search needs
+
+  returns-3 : join-lts.Need-returns-3 (told t) (at t) join.Post
+  returns-3 c = high-full _ _ _ _ _ _ _ _ _ (c .before .before .before .before .before .before .before .before .before .before .before .before .before .before .before .before .before .before .before .before .before .before .before .before .before .before .before .before .before .pre .1) _ (cut-parted (c .before .before .before .before .before .before .before .before .before .before .before .before .before .before .before .before .before .before .before .before)) _ _ _ _ (c .before .before .before .before .before .before .before .before .before .before .before .before .before .before .before .before .join .kept .1 .1 .0) (c .before .before .before .before .before .before .before .before .before .before .before .before .before .before .before .before .join .kept .1 .1 .1 .0) (low-is (c .before .before .before .before .before .before .before .before .before)) (side-full _ _ _ _ _ _ _ _ _ (c .before .before .before .before .before .before .before .before .before .before .before .before .before .before .before .before .before .before .before .before .before .before .before .before .before .before .before .before .before .pre .1) _ (cut-parted (c .before .before .before .before .before .before .before .before .before .before .before .before .before .before .before .before .before .before .before .before)) _ _ _ _ _ _ (c .before .before .before .before .before .before .join2 .ensures) (c .enum-told3 .given .1))
+
+  settle-requires : join-lts.Need-settle-requires (told t) (at t) join.Post
+  settle-requires c κs = settling _ _ _ _ _ _ _ _ _ (c .before .before .before .before .before .before .before .before .before .before .before .before .before .before .before .before .before .before .before .before .before .before .before .before .before .before .before .before .before .before .before .before .pre .1) _ (cut-parted (c .before .before .before .before .before .before .before .before .before .before .before .before .before .before .before .before .before .before .before .before .before .before .before)) _ _ _ _ (c .before .before .before .before .before .before .before .before .before .before .before .before .before .before .before .before .before .before .before .join .kept .1 .1 .0) (c .before .before .before .before .before .before .before .before .before .before .before .before .before .before .before .before .before .before .before .join .kept .1 .1 .1 .0) (low-is (c .before .before .before .before .before .before .before .before .before .before .before .before)) _ _ _ _ (c .before .before .before .before .before .before .before .before .before .join2 .kept .1 .1 .0) (c .before .before .before .before .before .before .before .before .before .join2 .kept .1 .1 .1 .0) (high-is (c .before .before))
+
+  same-length-6 : join-lts.Need-same-length-6 (told t) (at t) join.Post
+  same-length-6 c = search needs
+
+  same-length-7 : join-lts.Need-same-length-7 (told t) (at t) join.Post
+  same-length-7 c = search needs
+
+  returns-4 : join-lts.Need-returns-4 (told t) (at t) join.Post
+  returns-4 c = finish _ _ _ _ _ _ _ _ _ (c .before .before .before .before .before .before .before .before .before .before .before .before .before .before .before .before .before .before .before .before .before .before .before .before .before .before .before .before .before .before .before .before .before .before .before .before .before .pre .1) _ (cut-parted (c .before .before .before .before .before .before .before .before .before .before .before .before .before .before .before .before .before .before .before .before .before .before .before .before .before .before .before .before)) _ _ _ _ (c .before .before .before .before .before .before .before .before .before .before .before .before .before .before .before .before .before .before .before .before .before .before .before .before .join .kept .1 .1 .0) (c .before .before .before .before .before .before .before .before .before .before .before .before .before .before .before .before .before .before .before .before .before .before .before .before .join .kept .1 .1 .1 .0) (low-is (c .before .before .before .before .before .before .before .before .before .before .before .before .before .before .before .before .before)) _ _ _ _ (c .before .before .before .before .before .before .before .before .before .before .before .before .before .before .join2 .kept .1 .1 .0) (c .before .before .before .before .before .before .before .before .before .before .before .before .before .before .join2 .kept .1 .1 .1 .0) (high-is (c .before .before .before .before .before .before .before)) _ _ (c .before .before .before .before .settle .result) (c .before .before .before .before .settle .ensures)
+
+pub +join-spec : {M : Type 1} → statement M
++join-spec = close μ (λ t. join-lts.spec (told t) (at t) join.Post (split-requires t) (enum-known-step t) (enum-told t) (known-of-requires t) (same-length t) (returns t) (add-t21 t) (join-requires t) (enum-known-low t) (enum-told-2 t) (same-length-2 t) (same-length-3 t) (returns-2 t) (join-requires-2 t) (enum-known-high t) (enum-told-3 t) (same-length-4 t) (same-length-5 t) (returns-3 t) (settle-requires t) (same-length-6 t) (same-length-7 t) (returns-4 t))

@@ -1,0 +1,6 @@
+pub mod PairLaws
+pub mod MemoLaws
+pub mod LeafLaws
+pub mod SplitLaws
+pub mod JoinLaws
+pub mod WholeLaws

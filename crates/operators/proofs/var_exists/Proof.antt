@@ -1,0 +1,68 @@
+use Rattle.operators.specs.Operators.{makesExists}
+use Rattle.operators.proofs.OperatorLaws.{or-table, three, mark-refused, mark-few, mark-given, mark-outcome}
+use borrow.Author.Needs.{needs}
+use Rattle.operators.proofs.var_exists.Statement.{statement}
+use Rattle.operators.proofs.var_exists.Tie as tie
+
+admit-table-room-mark-requires : tie.Need-admit-table-room-mark-requires
+admit-table-room-mark-requires c κs = search needs
+
+enum-told : tie.Need-enum-told
+enum-told c = search needs
+
+enum-told-2 : tie.Need-enum-told-2
+enum-told-2 c = search needs
+
+refusal-of-requires : tie.Need-refusal-of-requires
+refusal-of-requires c κs = search needs
+
+same-length : tie.Need-same-length
+same-length c = search needs
+
+same-length-2 : tie.Need-same-length-2
+same-length-2 c = search needs
+
+returns : tie.Need-returns
+unfolding makesExists
+returns c =
+    let g = c .before .before .before .before .before .before .before .before .before .args in
+    three _ _ _ _ _ _ (mark-refused (g .n) (g .count) (g .nodes .now) (g .room) (g .out .now) (g .work .now) (g .variable) _ (c .before .before .before .admit-table-room-mark .ensures) _ _ _ (c .before .enum-told2 .given .1) (c .refusal-of .ensures))
+
+mark-job-requires : tie.Need-mark-job-requires
+mark-job-requires c κs =
+    let g = c .before .before .before .before .before .before .before .before .before .before .args in
+    mark-few (g .n) (g .count) (g .nodes .now) (g .room) (g .out .now) (g .work .now) (g .variable) _ (c .before .before .before .before .admit-table-room-mark .ensures) _ (c .before .before .enum-told .given .1)
+
+joined-requires : tie.Need-joined-requires
+joined-requires c κs =
+    let g = c .before .before .before .before .before .before .before .before .before .before .before .args in
+    mark-given (g .n) (g .count) (g .nodes .now) (g .room) (g .out .now) (g .work .now) (g .variable) _ (c .before .before .before .before .before .admit-table-room-mark .ensures) _ (c .before .before .before .enum-told .given .1) _ _ (c .mark-job .ensures)
+
+same-length-3 : tie.Need-same-length-3
+same-length-3 c = search needs
+
+same-length-4 : tie.Need-same-length-4
+same-length-4 c = search needs
+
+returns-2 : tie.Need-returns-2
+unfolding makesExists
+returns-2 c =
+    let g = c .before .before .before .before .before .before .before .before .before .before .before .before .before .before .before .before .args in
+    three _ _ _ _ _ _ (mark-outcome (g .n) (g .count) (g .nodes .now) (g .room) (g .out .now) (g .work .now) (g .variable) _ (c .before .before .before .before .before .before .before .before .before .before .admit-table-room-mark .ensures) _ (c .before .before .before .before .before .before .before .before .enum-told .given .1) _ _ or-table _ (c .before .before .before .before .before .mark-job .ensures) _ _ _ (c .before .before .before .before .joined .ensures))
+
+pub var-exists-spec : {M : Type 1} → statement M
+var-exists-spec =
+    tie.close
+    (tie.spec
+    admit-table-room-mark-requires
+    enum-told
+    enum-told-2
+    refusal-of-requires
+    same-length
+    same-length-2
+    returns
+    mark-job-requires
+    joined-requires
+    same-length-3
+    same-length-4
+    returns-2)
