@@ -1,1 +1,3 @@
 pub mod OperatorLaws
+pub mod OperatesLaws
+pub mod Operated

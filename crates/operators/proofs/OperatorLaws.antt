@@ -10,7 +10,6 @@ use Rattle.theory.specs.Mask.{bit}
 use Rattle.theory.specs.Tree.{Tree, leaf, fork, Deep, pointwise, cofactor}
 use Rattle.theory.specs.Table.{Table, canon, meaning}
 use Rattle.theory.specs.Words.{nodes}
-use Rattle.theory.proofs.Small.{treeOf-deep}
 use Rattle.refusal.specs.Number.{order}
 use Rattle.refusal.specs.Limits.{maxNodes}
 use Rattle.refusal.specs.Buffers.{outputAfter, workAfter}
@@ -34,6 +33,7 @@ use Rattle.admission.proofs.Admitted.{refused-outcome, Roomed, mark-quiet, mark
 use Rattle.join.specs.declared.Job.{Job}
 use Rattle.join.specs.Task.{opOf}
 use Rattle.join.specs.Joining.{joinedBy, Given}
+use Rattle.operators.proofs.OperatesLaws.{meaning-deep}
 use Rattle.operators.specs.Operators.{andNot, pairJob, markJob}
 
 -- ---- the truth tables
@@ -75,10 +75,6 @@ cofactor-none zero i b (fork lo hi) d h = absurd d
 cofactor-none (suc k) i b (leaf c) d h = absurd d
 cofactor-none (suc k) zero b (fork lo hi) d h = absurd (let z : ⊥ = omega arith in z)
 cofactor-none (suc k) (suc i) b (fork lo hi) d h = ap₂ fork (cofactor-none k i b lo (d .0) (omega arith)) (cofactor-none k i b hi (d .1) (omega arith))
-
-meaning-deep : (n : ℕ) (s : Table) → Deep n (meaning n s)
-unfolding meaning
-meaning-deep n s = treeOf-deep n s 0 (length s - 1)
 
 -- ---- the join, settled
 pub leaves-settling : (over : Bool) (place : ℕ) (t : Table) (out : List ℕ) (tabled : Tabled) → Leaves over place t out tabled → Settling tabled out
