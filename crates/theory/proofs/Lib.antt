@@ -16,3 +16,4 @@ pub mod Trailing
 pub mod Marks
 pub mod Clauses
 pub mod Gathers
+pub mod Turned
