@@ -2,33 +2,68 @@
 -- leaves output and work memory zero. Each promise leaves one possible answer.
 use mathlib.Core.Path.{_≡_, refl}
 use mathlib.Core.Logic.{_↔_}
-use mathlib.Core.Bool.{true, false}
+use mathlib.Core.Bool.{Bool, true, false}
 use mathlib.Core.List.{List, [], _∷_, _++_}
 use Prim.Native.Nat.{ℕ, _*_, _-_, _≤_, _<_}
 use native.Mathlib.Omega.{arith}
 use lib.ListN.{length, getD, replicate}
+use Rattle.theory.specs.Clause.{Clause}
 use Rattle.theory.specs.Table.{nodeOk, Ordered}
 use Rattle.theory.specs.Words.{nodes}
 use Rattle.refusal.specs.Number.{LIMIT, SHORT, VARIABLE, CLAUSE, TABLE, REDUCED, NODES, CLAUSES, SHEET}
 use Rattle.refusal.specs.Buffers.{padded, zeroing, bufferAfter, outputAfter, workAfter}
-use Rattle.refusal.specs.Verdict.{refused, answered, replied}
+use Rattle.refusal.specs.Verdict.{refused, answered}
 use Rattle.refusal.specs.Truth.{truthReply}
-use Rattle.refusal.specs.declared.Truth.{Truth}
-use Rattle.refusal.proofs.Single.{single, truth-one}
-use Rattle.table.specs.declared.Inspection.{Inspection}
+use Rattle.refusal.specs.Counted.{countedReply}
+use Rattle.refusal.proofs.Single.{Single, single, truth-one, counted-one}
+use Rattle.valuation.specs.declared.ValueList.{ValueList}
+use Rattle.valuation.specs.Replies.{lookupReply, updatedReply, lastFixedReply, valueListReply, repliedIn}
+use Rattle.valuation.specs.Valuation.{asksEmpty, countsFixed, findsLast, gathersValues, listsValues, getsValue, asksValue, setsValue, unsetsValue, asksExtends, asksEqual}
+use Rattle.valuation.proofs.OneToOne.{lookup-one, updated-one, last-one, single-list}
 use Rattle.table.specs.Inspection.{inspectionReply, inspects, SoundTable}
 use Rattle.table.specs.Case.{evaluates}
 use Rattle.table.proofs.InspectionSingle.{inspection-one}
 use Rattle.table.proofs.Inspected.{inspects-sound, sound-inspects, table-place}
 
--- one possible answer
-inspect-single : (n count : ℕ) (words : List ℕ) (a b : Inspection)
-    → inspectionReply a ≡ replied (inspects n count words) → inspectionReply b ≡ replied (inspects n count words) → a ≡ b
-inspect-single n count words a b = single inspectionReply inspection-one (inspects n count words) a b
+-- one possible answer, entry by entry
+inspect-single : (n count : ℕ) (words : List ℕ) → Single inspectionReply (inspects n count words)
+inspect-single n count words = single inspectionReply inspection-one (inspects n count words)
 
-eval-in-single : (n count : ℕ) (words : List ℕ) (case : ℕ) (a b : Truth)
-    → truthReply a ≡ replied (evaluates n count words case) → truthReply b ≡ replied (evaluates n count words case) → a ≡ b
-eval-in-single n count words case a b = single truthReply truth-one (evaluates n count words case) a b
+eval-in-single : (n count : ℕ) (words : List ℕ) (case : ℕ) → Single truthReply (evaluates n count words case)
+eval-in-single n count words case = single truthReply truth-one (evaluates n count words case)
+
+is-empty-single : (c : Clause) → Single truthReply (asksEmpty c)
+is-empty-single c = single truthReply truth-one (asksEmpty c)
+
+cardinality-single : (c : Clause) → Single countedReply (countsFixed c)
+cardinality-single c = single countedReply counted-one (countsFixed c)
+
+last-fixed-variable-single : (c : Clause) → Single lastFixedReply (findsLast c)
+last-fixed-variable-single c = single lastFixedReply last-one (findsLast c)
+
+from-values-single : (values : List ℕ) → Single updatedReply (gathersValues values)
+from-values-single values = single updatedReply updated-one (gathersValues values)
+
+to-values-single : (c : Clause) (a b : ValueList) → valueListReply a ≡ repliedIn 61 (listsValues c) → valueListReply b ≡ repliedIn 61 (listsValues c) → a ≡ b
+to-values-single c = single-list 61 (listsValues c)
+
+get-value-single : (c : Clause) (mark : ℕ) → Single lookupReply (getsValue c mark)
+get-value-single c mark = single lookupReply lookup-one (getsValue c mark)
+
+has-value-single : (c : Clause) (mark : ℕ) → Single truthReply (asksValue c mark)
+has-value-single c mark = single truthReply truth-one (asksValue c mark)
+
+set-value-single : (c : Clause) (mark : ℕ) (value : Bool) → Single updatedReply (setsValue c mark value)
+set-value-single c mark value = single updatedReply updated-one (setsValue c mark value)
+
+unset-value-single : (c : Clause) (mark : ℕ) → Single updatedReply (unsetsValue c mark)
+unset-value-single c mark = single updatedReply updated-one (unsetsValue c mark)
+
+extends-single : (c d : Clause) → Single truthReply (asksExtends c d)
+extends-single c d = single truthReply truth-one (asksExtends c d)
+
+eq-single : (c d : Clause) → Single truthReply (asksEqual c d)
+eq-single c d = single truthReply truth-one (asksEqual c d)
 
 -- inspection answers the root exactly for ordered tables within the limits
 inspect-sound : (n count : ℕ) (words : List ℕ)

@@ -68,3 +68,8 @@ pub exported : (before after : List ℕ) (result : ℕ) (w : Written) (r : Reply
     → (result ≡ accepted before) × (after ≡ bufferWith (writtenWords w) before) → writtenWords w ≡ padded (replyWords r) 5 → r ≡ replied v
     → (result ≡ accepted before) × (after ≡ replyAfter v before)
 exported before after result w r v wrote words reply = (wrote .0, wrote .1 ∙ buffer-same w r before words ∙ ap (λ q. bufferWith (replyWords q) before) reply)
+
+-- a whole reply written to a buffer that is long enough
+pub filled : (before after : List ℕ) (r q : Reply) → replyLength ≤ length before → after ≡ padded (replyWords r) (length before) → r ≡ q → after ≡ bufferWith (replyWords q) before
+unfolding bufferWith
+filled before after r q h e same = rw (le-ltb (length before) replyLength h) (e ∙ ap (λ x. padded (replyWords x) (length before)) same)

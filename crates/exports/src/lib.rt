@@ -1,16 +1,33 @@
 // The public entries for C and Rust: numbers and slices in, the reply into a lent buffer.
 // Each call returns 1; where the reply's buffer has under 64 words it returns 0 and touches nothing.
+use refusal::Counted;
+use refusal::Refusal;
+use refusal::Truth;
+use table::Inspection;
+use valuation::BddPartialValuation;
+use valuation::BddVariable;
+use valuation::Cell;
+use valuation::LastFixed;
+use valuation::Lookup;
+use valuation::Updated;
+use valuation::ValueList;
 ghost use mathlib.Core.Path.{_≡_};
+ghost use Prim.Native.Nat.{_≤_};
+ghost use lib.ListN.{length};
 ghost use Rattle.refusal.specs.Buffers.{padded};
 ghost use mathlib.Core.List.{[], _∷_};
 ghost use Rattle.refusal.specs.Verdict.{gives, refusalReply};
 ghost use Rattle.refusal.specs.Truth.{truthReply};
 ghost use Rattle.table.specs.Inspection.{inspectionReply, inspects};
 ghost use Rattle.table.specs.Case.{evaluates};
-ghost use Rattle.exports.specs.Exports.{replyWords, accepted, bufferWith, replyAfter, writtenWords};
-use refusal::Refusal;
-use refusal::Truth;
-use table::Inspection;
+ghost use mathlib.Core.Bool.{not};
+ghost use lib.Dec.{eqb};
+ghost use Rattle.theory.specs.Clause.{clause};
+ghost use Rattle.refusal.specs.Counted.{countedReply};
+ghost use Rattle.refusal.specs.Verdict.{replied};
+ghost use Rattle.valuation.specs.Replies.{lookupReply, updatedReply, lastFixedReply, valueListReply, repliedIn};
+ghost use Rattle.valuation.specs.Valuation.{saysClause, asksEmpty, countsFixed, findsLast, gathersValues, listsValues, getsValue, asksValue, setsValue, unsetsValue, asksExtends, asksEqual};
+ghost use Rattle.exports.specs.Exports.{replyLength, replyWords, accepted, bufferWith, replyAfter, writtenWords};
 
 // The least length of a reply's buffer.
 const REPLY_WORDS: usize = 64;
@@ -63,6 +80,18 @@ fn value_written(value: u64) -> Written
     }
 }
 
+fn pair_written(first: u64, second: u64) -> Written
+    ensures { λ w. ⌜ writtenWords w ≡ padded (replyWords (gives (first ∷ second ∷ []))) 5 ⌝ }
+{
+    Written {
+        number: 0,
+        place: 0,
+        first,
+        second,
+        third: 0,
+    }
+}
+
 fn inspection_written(inspection: Inspection) -> Written
     ensures { λ w. ⌜ writtenWords w ≡ padded (replyWords (inspectionReply inspection)) 5 ⌝ }
 {
@@ -79,6 +108,52 @@ fn truth_written(truth: Truth) -> Written
         Truth::Yes => value_written(1),
         Truth::No => value_written(0),
         Truth::Refused(r) => refusal_written(r),
+    }
+}
+
+fn counted_written(counted: Counted) -> Written
+    ensures { λ w. ⌜ writtenWords w ≡ padded (replyWords (countedReply counted)) 5 ⌝ }
+{
+    match counted {
+        Counted::Number(k) => value_written(k),
+        Counted::Refused(r) => refusal_written(r),
+    }
+}
+
+fn cell_written(cell: Cell) -> Written
+    ensures { λ w. ⌜ writtenWords w ≡ padded (replyWords (lookupReply (Lookup.Found cell))) 5 ⌝ }
+{
+    match cell {
+        Cell::Unset => value_written(0),
+        Cell::Value(value) => pair_written(1, if value { 1 } else { 0 }),
+    }
+}
+
+fn lookup_written(lookup: Lookup) -> Written
+    ensures { λ w. ⌜ writtenWords w ≡ padded (replyWords (lookupReply lookup)) 5 ⌝ }
+{
+    match lookup {
+        Lookup::Found(cell) => cell_written(cell),
+        Lookup::Refused(r) => refusal_written(r),
+    }
+}
+
+fn updated_written(updated: Updated) -> Written
+    ensures { λ w. ⌜ writtenWords w ≡ padded (replyWords (updatedReply updated)) 5 ⌝ }
+{
+    match updated {
+        Updated::Valuation(v) => pair_written(v.fixed, v.values),
+        Updated::Refused(r) => refusal_written(r),
+    }
+}
+
+fn last_fixed_written(last: LastFixed) -> Written
+    ensures { λ w. ⌜ writtenWords w ≡ padded (replyWords (lastFixedReply last)) 5 ⌝ }
+{
+    match last {
+        LastFixed::Variable(variable) => pair_written(1, variable.0 as u64),
+        LastFixed::Nothing => value_written(0),
+        LastFixed::Refused(r) => refusal_written(r),
     }
 }
 
@@ -100,4 +175,158 @@ pub extern "C" fn collartug_eval_in(
     ensures { λ r. ⌜ (r ≡ accepted (now (reply .entry))) × (now (reply .exit) ≡ replyAfter (evaluates n count (now (bdd .entry)) case) (now (reply .entry))) ⌝ }
 {
     write_reply(reply, truth_written(table::eval_in(n, count, bdd, case)))
+}
+
+#[no_mangle]
+pub extern "C" fn collartug_is_empty(fixed: u64, values: u64, reply: &mut [u64]) -> u64
+    ensures { λ r. ⌜ (r ≡ accepted (now (reply .entry))) × (now (reply .exit) ≡ replyAfter (asksEmpty (clause fixed values)) (now (reply .entry))) ⌝ }
+{
+    let v = BddPartialValuation { fixed, values };
+    write_reply(reply, truth_written(v.is_empty()))
+}
+
+#[no_mangle]
+pub extern "C" fn collartug_cardinality(fixed: u64, values: u64, reply: &mut [u64]) -> u64
+    ensures { λ r. ⌜ (r ≡ accepted (now (reply .entry))) × (now (reply .exit) ≡ replyAfter (countsFixed (clause fixed values)) (now (reply .entry))) ⌝ }
+{
+    let v = BddPartialValuation { fixed, values };
+    write_reply(reply, counted_written(v.cardinality()))
+}
+
+#[no_mangle]
+pub extern "C" fn collartug_last_fixed_variable(fixed: u64, values: u64, reply: &mut [u64]) -> u64
+    ensures { λ r. ⌜ (r ≡ accepted (now (reply .entry))) × (now (reply .exit) ≡ replyAfter (findsLast (clause fixed values)) (now (reply .entry))) ⌝ }
+{
+    let v = BddPartialValuation { fixed, values };
+    write_reply(reply, last_fixed_written(v.last_fixed_variable()))
+}
+
+#[no_mangle]
+pub extern "C" fn collartug_get_value(fixed: u64, values: u64, id: u16, reply: &mut [u64]) -> u64
+    ensures { λ r. ⌜ (r ≡ accepted (now (reply .entry))) × (now (reply .exit) ≡ replyAfter (getsValue (clause fixed values) id) (now (reply .entry))) ⌝ }
+{
+    let v = BddPartialValuation { fixed, values };
+    write_reply(reply, lookup_written(v.get_value(BddVariable(id))))
+}
+
+#[no_mangle]
+pub extern "C" fn collartug_has_value(fixed: u64, values: u64, id: u16, reply: &mut [u64]) -> u64
+    ensures { λ r. ⌜ (r ≡ accepted (now (reply .entry))) × (now (reply .exit) ≡ replyAfter (asksValue (clause fixed values) id) (now (reply .entry))) ⌝ }
+{
+    let v = BddPartialValuation { fixed, values };
+    write_reply(reply, truth_written(v.has_value(BddVariable(id))))
+}
+
+#[no_mangle]
+pub extern "C" fn collartug_set_value(
+    fixed: u64,
+    values: u64,
+    id: u16,
+    value: u64,
+    reply: &mut [u64],
+) -> u64
+    ensures { λ r. ⌜ (r ≡ accepted (now (reply .entry))) × (now (reply .exit) ≡ replyAfter (setsValue (clause fixed values) id (not (eqb value 0))) (now (reply .entry))) ⌝ }
+{
+    let v = BddPartialValuation { fixed, values };
+    write_reply(
+        reply,
+        updated_written(v.set_value(BddVariable(id), value != 0)),
+    )
+}
+
+#[no_mangle]
+pub extern "C" fn collartug_unset_value(fixed: u64, values: u64, id: u16, reply: &mut [u64]) -> u64
+    ensures { λ r. ⌜ (r ≡ accepted (now (reply .entry))) × (now (reply .exit) ≡ replyAfter (unsetsValue (clause fixed values) id) (now (reply .entry))) ⌝ }
+{
+    let v = BddPartialValuation { fixed, values };
+    write_reply(reply, updated_written(v.unset_value(BddVariable(id))))
+}
+
+#[no_mangle]
+pub extern "C" fn collartug_extends(
+    fixed: u64,
+    values: u64,
+    other_fixed: u64,
+    other_values: u64,
+    reply: &mut [u64],
+) -> u64
+    ensures { λ r. ⌜ (r ≡ accepted (now (reply .entry))) × (now (reply .exit) ≡ replyAfter (asksExtends (clause fixed values) (clause «other_fixed» «other_values»)) (now (reply .entry))) ⌝ }
+{
+    let v = BddPartialValuation { fixed, values };
+    let other = BddPartialValuation {
+        fixed: other_fixed,
+        values: other_values,
+    };
+    write_reply(reply, truth_written(v.extends(other)))
+}
+
+#[no_mangle]
+pub extern "C" fn collartug_eq(
+    fixed: u64,
+    values: u64,
+    other_fixed: u64,
+    other_values: u64,
+    reply: &mut [u64],
+) -> u64
+    ensures { λ r. ⌜ (r ≡ accepted (now (reply .entry))) × (now (reply .exit) ≡ replyAfter (asksEqual (clause fixed values) (clause «other_fixed» «other_values»)) (now (reply .entry))) ⌝ }
+{
+    let v = BddPartialValuation { fixed, values };
+    let other = BddPartialValuation {
+        fixed: other_fixed,
+        values: other_values,
+    };
+    write_reply(reply, truth_written(v.eq(other)))
+}
+
+#[no_mangle]
+pub extern "C" fn collartug_empty(reply: &mut [u64]) -> u64
+    ensures { λ r. ⌜ (r ≡ accepted (now (reply .entry))) × (now (reply .exit) ≡ replyAfter (saysClause (clause 0 0)) (now (reply .entry))) ⌝ }
+{
+    let v = BddPartialValuation::empty();
+    write_reply(reply, pair_written(v.fixed, v.values))
+}
+
+#[no_mangle]
+pub extern "C" fn collartug_from_values(values: &[u32], reply: &mut [u64]) -> u64
+    ensures { λ r. ⌜ (r ≡ accepted (now (reply .entry))) × (now (reply .exit) ≡ replyAfter (gathersValues (now (values .entry))) (now (reply .entry))) ⌝ }
+{
+    write_reply(
+        reply,
+        updated_written(BddPartialValuation::from_values(values)),
+    )
+}
+
+fn wide(word: u32) -> u64
+    ensures { λ r. ⌜ r ≡ word ⌝ }
+{
+    word as u64
+}
+
+// The words of a list of values, behind number, place and count.
+fn write_values(reply: &mut [u64], list: ValueList)
+    requires { ⌜ (replyLength ≤ length (now reply)) × (length (list .words) ≡ 60) ⌝ }
+    ensures { λ _. ⌜ now (reply .exit) ≡ padded (replyWords (valueListReply list)) (length (now (reply .entry))) ⌝ }
+{
+    let words = list.words;
+    reply[0] = list.refusal.number as u64;
+    reply[1] = list.refusal.place;
+    reply[2] = list.count as u64;
+    let mut i: usize = 0;
+    while i < 60 {
+        reply[3 + i] = wide(words[i]);
+        i += 1;
+    }
+    refusal::zero_u64_from(reply, 63);
+}
+
+#[no_mangle]
+pub extern "C" fn collartug_to_values(fixed: u64, values: u64, reply: &mut [u64]) -> u64
+    ensures { λ r. ⌜ (r ≡ accepted (now (reply .entry))) × (now (reply .exit) ≡ bufferWith (replyWords (repliedIn 61 (listsValues (clause fixed values)))) (now (reply .entry))) ⌝ }
+{
+    if reply.len() < REPLY_WORDS {
+        return 0;
+    }
+    let v = BddPartialValuation { fixed, values };
+    write_values(reply, v.to_values());
+    1
 }

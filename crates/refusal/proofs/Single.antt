@@ -14,8 +14,12 @@ use Rattle.refusal.specs.declared.Counted.the-variants as counted
 abbrev pub OneToOne : {A : Type 0} → (A → Reply) → Type 0
 OneToOne {A} reply = (a b : A) → reply a ≡ reply b → a ≡ b
 
--- where replies are one to one, a promise about the reply leaves one answer
-pub single : {A : Type 0} (reply : A → Reply) → OneToOne reply → (v : Verdict) (a b : A) → reply a ≡ replied v → reply b ≡ replied v → a ≡ b
+-- a promise about the reply leaves one answer
+abbrev pub Single : {A : Type 0} → (A → Reply) → Verdict → Type 0
+Single {A} reply v = (a b : A) → reply a ≡ replied v → reply b ≡ replied v → a ≡ b
+
+-- so it is where replies are one to one
+pub single : {A : Type 0} (reply : A → Reply) → OneToOne reply → (v : Verdict) → Single reply v
 single reply one v a b p q = one a b (p ∙ sym q)
 
 -- a lent buffer about whose contents there is an equation has one

@@ -7,11 +7,11 @@ use Rattle.theory.specs.Mask.{bit}
 use Rattle.theory.specs.Tree.{look}
 use Rattle.theory.specs.Table.{Node, childOf, num, meaning}
 use Rattle.theory.specs.Words.{nodes}
-use Rattle.refusal.specs.Number.{LIMIT, SHORT, VARIABLE}
+use Rattle.refusal.specs.Number.{VARIABLE}
 use Rattle.refusal.specs.Limits.{caseBits}
 use Rattle.refusal.specs.First.{firstFailing}
 use Rattle.refusal.specs.Verdict.{Finding, finding, Verdict, answered, judged}
-use Rattle.table.specs.Inspection.{overLimit, tooShort, notOrdered, rootOf}
+use Rattle.table.specs.Inspection.{tableFindings, rootOf}
 
 -- VARIABLE: the case has a bit from n up
 unfoldable pub overCase : ℕ → ℕ → Bool
@@ -23,12 +23,7 @@ lowestOver n case = firstFailing (λ i. not (leb n i && bit i case)) caseBits
 
 -- what may be wrong with a table and a case
 abbrev pub caseFindings : ℕ → ℕ → List ℕ → ℕ → List Finding
-caseFindings n count words case =
-    finding LIMIT (overLimit n count) 0
-    ∷ finding SHORT (tooShort count words) 0
-    ∷ finding VARIABLE (overCase n case) (lowestOver n case)
-    ∷ notOrdered n count words
-    ∷ []
+caseFindings n count words case = finding VARIABLE (overCase n case) (lowestOver n case) ∷ tableFindings n count words
 
 -- the admission of a table and a case: the root where nothing is wrong
 unfoldable pub admitsCase : ℕ → ℕ → List ℕ → ℕ → Verdict

@@ -48,10 +48,13 @@ rootOf count = answered ((count - 1) ∷ []) []
 abbrev pub roots : ℕ → ℕ → List ℕ → Verdict
 roots n count words = judged (notOrdered n count words ∷ []) (rootOf count)
 
+-- what may be wrong with a table
+abbrev pub tableFindings : ℕ → ℕ → List ℕ → List Finding
+tableFindings n count words = finding LIMIT (overLimit n count) 0 ∷ finding SHORT (tooShort count words) 0 ∷ notOrdered n count words ∷ []
+
 -- sound exactly for ordered tables within the limits
 unfoldable pub inspects : ℕ → ℕ → List ℕ → Verdict
-inspects n count words =
-    judged (finding LIMIT (overLimit n count) 0 ∷ finding SHORT (tooShort count words) 0 ∷ notOrdered n count words ∷ []) (rootOf count)
+inspects n count words = judged (tableFindings n count words) (rootOf count)
 
 -- what is known of a table that passed: inner functions ask for it
 pub record SoundTable (n count : ℕ) (words : List ℕ) (root : ℕ) : Type 0 where

@@ -5,7 +5,6 @@ ghost use Prim.Native.Nat.{ℕ, _+_, _*_, _-_, _<_, _≤_};
 ghost use lib.ListN.{length, getD};
 ghost use Rattle.theory.specs.Table.{Node, node, same, linkOk, nodeOk};
 ghost use Rattle.theory.specs.Words.{stride, nodeAt, nodes};
-ghost use Rattle.theory.specs.Mask.{bit};
 ghost use Rattle.refusal.specs.Limits.{maxMarks, maxNodes};
 ghost use Rattle.refusal.specs.Verdict.{replied, refusedWith};
 ghost use Rattle.refusal.specs.Truth.{truthReply};
@@ -128,7 +127,7 @@ fn first_bad(n: u16, count: usize, bdd: &[u32]) -> usize
     count
 }
 
-fn over_limit(n: u16, count: usize) -> bool
+pub fn over_limit(n: u16, count: usize) -> bool
     ensures { λ r. ⌜ r ≡ overLimit n count ⌝ }
 {
     if n > MAX_MARKS {
@@ -140,7 +139,7 @@ fn over_limit(n: u16, count: usize) -> bool
     count > MAX_NODES
 }
 
-fn too_short(count: usize, bdd: &[u32]) -> bool
+pub fn too_short(count: usize, bdd: &[u32]) -> bool
     requires { ⌜ count ≤ maxNodes ⌝ }
     ensures { λ r. ⌜ r ≡ tooShort count (now (bdd .entry)) ⌝ }
 {
@@ -148,7 +147,7 @@ fn too_short(count: usize, bdd: &[u32]) -> bool
 }
 
 // The last of a table's tests: its root, where every node is as ordered asks.
-fn ordered_root(n: u16, count: usize, bdd: &[u32]) -> Inspection
+pub fn ordered_root(n: u16, count: usize, bdd: &[u32]) -> Inspection
     requires { ⌜ (1 ≤ count) × (count ≤ maxNodes) × (stride * count ≤ length (now bdd)) ⌝ }
     ensures { λ r. ⌜ inspectionReply r ≡ replied (roots n count (now (bdd .entry))) ⌝ }
 {
@@ -162,7 +161,7 @@ fn ordered_root(n: u16, count: usize, bdd: &[u32]) -> Inspection
     Inspection::Sound(BddPointer((count - 1) as u32))
 }
 
-fn refused(number: u8) -> Inspection
+pub fn refused(number: u8) -> Inspection
     ensures { λ r. ⌜ inspectionReply r ≡ refusedWith number 0 ⌝ }
 {
     Inspection::Refused(Refusal { number, place: 0 })
@@ -228,20 +227,12 @@ pub fn refusal_of(inspection: Inspection) -> Refusal
     }
 }
 
-// The case's bit at a mark.
-fn bit_of(case: u64, variable: BddVariable) -> bool
-    requires { ⌜ variable .0 ≤ maxMarks ⌝ }
-    ensures { λ r. ⌜ r ≡ bit (variable .0) case ⌝ }
-{
-    (case >> variable.0) % 2 == 1
-}
-
 // The child to which the case leads from node p.
 fn child_for(bdd: &[u32], p: BddPointer, case: u64) -> BddPointer
     requires { ⌜ (stride * p .0 + 2 < length (now bdd)) × ((nodeAt (now bdd) (p .0)) .mark ≤ maxMarks) ⌝ }
     ensures { λ r. ⌜ r .0 ≡ childFor (nodeAt (now (bdd .entry)) (p .0)) case ⌝ }
 {
-    if bit_of(case, var_of(bdd, p)) {
+    if valuation::has_bit(case, var_of(bdd, p)) {
         high_link_of(bdd, p)
     } else {
         low_link_of(bdd, p)

@@ -17,3 +17,4 @@ pub mod Marks
 pub mod Clauses
 pub mod Gathers
 pub mod Turned
+pub mod Support

@@ -13,6 +13,9 @@ pub record Clause : Type 0 where
   pub fixed : ℕ
   pub values : ℕ
 
+abbrev pub clause : ℕ → ℕ → Clause
+clause f v = record { fixed = f; values = v }
+
 -- over n marks: fixed has a bit from n up, or values has a bit that fixed has not
 unfoldable pub malformed : ℕ → ℕ → ℕ → Bool
 malformed n fixed values = leb (2 ^ n) fixed || not (eqb (bitOr fixed values) fixed)

@@ -58,8 +58,8 @@ last-variable mask h p = ap (λ x. replied (saysMark x)) (sym (leading-last 64 m
 pub leading-below : (mask : ℕ) → mask < 2 ^ maxMarks → mask ≢ 0 → leadingZeros 64 mask ≤ 63
 leading-below mask h p = let (j, e, low, high) = leading-top 64 mask (omega arith) (omega arith) in omega arith
 
-pub ones-fit : (mask : ℕ) → mask < 2 ^ maxMarks → ones mask < 2 ^ 64
-ones-fit mask h = omega (arith, ones-le maxMarks mask h)
+pub ones-fit : (mask : ℕ) → mask < 2 ^ 64 → ones mask < 2 ^ 64
+ones-fit mask h = omega (arith, ones-le 64 mask h)
 
 pub counts : (mask : ℕ) → mask < 2 ^ maxMarks → countedReply (Number (ones mask)) ≡ replied (answered (length (marksOf maxMarks mask) ∷ []) [])
 unfolding countedReply replied

@@ -1,7 +1,7 @@
 -- Laws that a user of partial valuations expects. Each is about the verdicts that the entries' contracts cite.
 use mathlib.Core.Path.{_≡_, refl, sym, ap, _∙_}
 use mathlib.Core.Logic.{_≢_, _↔_}
-use mathlib.Core.Bool.{Bool, true, false, cond}
+use mathlib.Core.Bool.{Bool, true, cond}
 use mathlib.Core.List.{List, [], _∷_, _++_}
 use mathlib.Core.Option.{Option, none, some}
 use Prim.Native.Nat.{ℕ, _+_, _/_, _<_}
@@ -26,6 +26,7 @@ use Rattle.valuation.specs.Valuation.{ofOne, ofMark, ofTwo, ofList, firs
 use Rattle.valuation.specs.Valuation.{asksEmpty, gathersValues, listsValues, getsValue, asksValue, setsValue, unsetsValue, asksExtends, asksEqual}
 use Rattle.valuation.proofs.Checks.{one-formed, mark-below, mark-formed, two-formed, list-good}
 use Rattle.valuation.proofs.Answers.{cell-none}
+use Rattle.valuation.proofs.OneToOne.{digit-single}
 use Rattle.valuation.proofs.Gathering.{passed-all, all-below}
 
 -- ---- calls that are not refused
@@ -56,10 +57,7 @@ clear-check fs clear = sym (ap replied (clear (answered [] [])))
 
 -- the same answer, the same value
 truth-is : (a b : Bool) → saysTruth a ≡ saysTruth b → a ≡ b
-truth-is true true e = refl
-truth-is false false e = refl
-truth-is true false e = let z : _≡_ {A = ℕ} 1 0 = cc in absurd (omega arith)
-truth-is false true e = let z : _≡_ {A = ℕ} 0 1 = cc in absurd (omega arith)
+truth-is a b e = let z : _≡_ {A = ℕ} (cond a 1 0) (cond b 1 0) = cc in digit-single a b z
 
 clause-is : (c d : Clause) → saysClause c ≡ saysClause d → c ≡ d
 clause-is c d e =
@@ -72,7 +70,7 @@ unfolding saysCell
 cell-is none none e = refl
 cell-is none (some b) e = let z : _≡_ {A = ℕ} 0 1 = cc in absurd (omega arith)
 cell-is (some a) none e = let z : _≡_ {A = ℕ} 1 0 = cc in absurd (omega arith)
-cell-is (some a) (some b) e = let z : cond a 1 0 ≡ cond {A = ℕ} b 1 0 = cc in ap some (truth-is a b (ap (λ k. answered (k ∷ []) []) z))
+cell-is (some a) (some b) e = let z : _≡_ {A = ℕ} (cond a 1 0) (cond b 1 0) = cc in ap some (digit-single a b z)
 
 entries-is : (us ws : List ℕ) → saysEntries us ≡ saysEntries ws → us ≡ ws
 entries-is us ws e = cc
@@ -285,10 +283,12 @@ extends-known c d e =
       so = truth-is (extending maxMarks c d) true (sym (clear (saysTruth (extending maxMarks c d))) ∙ e);
     }
 
+-- a well-formed valuation extends itself
 pub extends-itself : (c : Clause) → WellFormed maxMarks c → asksExtends c c ≡ saysTruth true
 unfolding asksExtends
 extends-itself c w = two-clear c c w w (saysTruth (extending maxMarks c c)) ∙ ap saysTruth (extending-self maxMarks c)
 
+-- what extends something extends all that it extends
 pub extends-through : (c d e : Clause) → asksExtends c d ≡ saysTruth true → asksExtends d e ≡ saysTruth true → asksExtends c e ≡ saysTruth true
 unfolding asksExtends
 extends-through c d e p q =
@@ -296,6 +296,7 @@ extends-through c d e p q =
     let y : Extends d e = extends-known d e q in
     two-clear c e (x .first) (y .second) (saysTruth (extending maxMarks c e)) ∙ ap saysTruth (extending-both maxMarks c d e (x .so) (y .so))
 
+-- two that extend each other are one
 pub extends-both-ways : (c d : Clause) → asksExtends c d ≡ saysTruth true → asksExtends d c ≡ saysTruth true → c ≡ d
 extends-both-ways c d p q =
     let x : Extends c d = extends-known c d p in

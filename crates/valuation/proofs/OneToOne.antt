@@ -24,7 +24,8 @@ two-values a b c d e =
 one-not-two : {B : Type 0} (a b c : ℕ) → gives (a ∷ []) ≡ gives (b ∷ c ∷ []) → B
 one-not-two a b c e = absurd (omega (arith, ap (λ (x : Reply). length (x .values)) e))
 
-digit-single : (a b : Bool) → _≡_ {A = ℕ} (cond a 1 0) (cond b 1 0) → a ≡ b
+-- a truth value by its digit
+pub digit-single : (a b : Bool) → _≡_ {A = ℕ} (cond a 1 0) (cond b 1 0) → a ≡ b
 digit-single true true e = refl
 digit-single false false e = refl
 digit-single true false e = absurd (let z : ⊥ = omega arith in z)

@@ -1,5 +1,6 @@
 -- `check_mark`: VARIABLE, or what is wrong with the valuation.
 use borrow.Author.Needs.{needs}
+use native.Mathlib.Omega.{arith}
 use mathlib.Core.Path.{_∙_}
 use Rattle.valuation.proofs.Checks.{mark-bad, mark-good}
 use Rattle.valuation.proofs.check_mark.Statement.{statement}
@@ -9,7 +10,7 @@ cast-t4 : tie.Need-cast-t4
 cast-t4 c = search needs
 
 returns : tie.Need-returns
-returns c = mark-bad _ (c .before .before .before .args .id .0) (c .before .if1 .taken)
+returns c = mark-bad _ (c .before .before .before .args .id .0) (omega (arith, c .before .if1 .taken))
 
 check-one-requires : tie.Need-check-one-requires
 check-one-requires c κs = search needs

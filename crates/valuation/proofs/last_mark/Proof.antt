@@ -1,5 +1,6 @@
 -- `last_mark`: nothing, or the mark below the leading zeros.
 use borrow.Author.Needs.{needs}
+use native.Mathlib.Omega.{arith}
 use Rattle.valuation.proofs.Answers.{last-nothing, last-variable, leading-below}
 use Rattle.valuation.proofs.last_mark.Statement.{statement}
 use Rattle.valuation.proofs.last_mark.Tie as tie
@@ -8,7 +9,7 @@ returns : tie.Need-returns
 returns c = last-nothing _ (c .if1 .taken)
 
 sub-t4 : tie.Need-sub-t4
-sub-t4 c = leading-below _ (c .before .pre) (c .if1 .left)
+sub-t4 c = omega (arith, leading-below (c .before .args .mask) (c .before .pre) (c .if1 .left))
 
 cast-t5 : tie.Need-cast-t5
 cast-t5 c = search needs

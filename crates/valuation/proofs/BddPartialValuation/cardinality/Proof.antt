@@ -16,7 +16,7 @@ unfolding countedReply countsFixed
 returns c = judged-stops _ _ _ (c .before .before .check-one .ensures) (c .if1 .taken)
 
 cast-t5 : tie.Need-cast-t5
-cast-t5 c = record { fits = ones-fit _ (one-formed _ _ (c .before .before .before .check-one .ensures) (c .before .if1 .left) .small) }
+cast-t5 c = record { fits = ones-fit _ (search needs) }
 
 returns-2 : tie.Need-returns-2
 unfolding countedReply countsFixed

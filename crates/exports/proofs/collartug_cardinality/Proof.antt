@@ -1,0 +1,29 @@
+use Rattle.exports.proofs.ReplyLaws.{exported}
+use borrow.Author.Needs.{needs}
+use Rattle.exports.proofs.collartug_cardinality.Statement.{statement}
+use Rattle.exports.proofs.collartug_cardinality.Tie as tie
+
+cardinality-requires : tie.Need-cardinality-requires
+cardinality-requires c κs = search needs
+
+counted-written-requires : tie.Need-counted-written-requires
+counted-written-requires c κs = search needs
+
+write-reply-requires : tie.Need-write-reply-requires
+write-reply-requires c κs = search needs
+
+same-length : tie.Need-same-length
+same-length c = search needs
+
+returns : tie.Need-returns
+returns c = exported _ _ _ _ _ _ (c .before .before .write-reply .ensures) (c .before .before .before .counted-written .ensures) (c .before .before .before .before .cardinality .ensures)
+
+pub collartug-cardinality-spec : {M : Type 1} → statement M
+collartug-cardinality-spec =
+    tie.close
+    (tie.spec
+    cardinality-requires
+    counted-written-requires
+    write-reply-requires
+    same-length
+    returns)

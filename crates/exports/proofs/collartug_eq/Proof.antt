@@ -1,0 +1,24 @@
+use Rattle.exports.proofs.ReplyLaws.{exported}
+use borrow.Author.Needs.{needs}
+use Rattle.exports.proofs.collartug_eq.Statement.{statement}
+use Rattle.exports.proofs.collartug_eq.Tie as tie
+
+eq-requires : tie.Need-eq-requires
+eq-requires c κs = search needs
+
+truth-written-requires : tie.Need-truth-written-requires
+truth-written-requires c κs = search needs
+
+write-reply-requires : tie.Need-write-reply-requires
+write-reply-requires c κs = search needs
+
+same-length : tie.Need-same-length
+same-length c = search needs
+
+returns : tie.Need-returns
+returns c = exported _ _ _ _ _ _ (c .before .before .write-reply .ensures) (c .before .before .before .truth-written .ensures) (c .before .before .before .before .eq .ensures)
+
+pub collartug-eq-spec : {M : Type 1} → statement M
+collartug-eq-spec =
+    tie.close
+    (tie.spec eq-requires truth-written-requires write-reply-requires same-length returns)

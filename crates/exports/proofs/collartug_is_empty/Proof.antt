@@ -1,0 +1,24 @@
+use Rattle.exports.proofs.ReplyLaws.{exported}
+use borrow.Author.Needs.{needs}
+use Rattle.exports.proofs.collartug_is_empty.Statement.{statement}
+use Rattle.exports.proofs.collartug_is_empty.Tie as tie
+
+is-empty-requires : tie.Need-is-empty-requires
+is-empty-requires c κs = search needs
+
+truth-written-requires : tie.Need-truth-written-requires
+truth-written-requires c κs = search needs
+
+write-reply-requires : tie.Need-write-reply-requires
+write-reply-requires c κs = search needs
+
+same-length : tie.Need-same-length
+same-length c = search needs
+
+returns : tie.Need-returns
+returns c = exported _ _ _ _ _ _ (c .before .before .write-reply .ensures) (c .before .before .before .truth-written .ensures) (c .before .before .before .before .is-empty .ensures)
+
+pub collartug-is-empty-spec : {M : Type 1} → statement M
+collartug-is-empty-spec =
+    tie.close
+    (tie.spec is-empty-requires truth-written-requires write-reply-requires same-length returns)
