@@ -36,9 +36,13 @@ writtenWords w = w .number ∷ w .place ∷ w .first ∷ w .second ∷ w .third 
 unfoldable pub lentAfter : List ℕ → List ℕ → List ℕ → List ℕ
 lentAfter reply after before = cond (ltb (length reply) replyLength) before after
 
--- what an export of an entry with an output and work leaves
-pub record Exported (v : Verdict) (r : ℕ) (out out′ work work′ reply reply′ : List ℕ) : Type 0 where
+-- what an export of an entry with work alone leaves
+pub record ExportedWork (v : Verdict) (r : ℕ) (work work′ reply reply′ : List ℕ) : Type 0 where
   pub returned : r ≡ accepted reply
   pub replies : reply′ ≡ replyAfter v reply
-  pub output : out′ ≡ lentAfter reply (outputAfter 0 v out) out
   pub memory : work′ ≡ lentAfter reply (workAfter v work) work
+
+-- what an export of an entry with an output and work leaves
+pub record Exported (v : Verdict) (r : ℕ) (out out′ work work′ reply reply′ : List ℕ) : Type 0 where
+  pub rest : ExportedWork v r work work′ reply reply′
+  pub output : out′ ≡ lentAfter reply (outputAfter 0 v out) out

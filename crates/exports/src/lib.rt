@@ -5,6 +5,7 @@ use refusal::Counted;
 use refusal::Refusal;
 use refusal::Truth;
 use table::Inspection;
+use unary::Marks;
 use valuation::BddPartialValuation;
 use valuation::BddVariable;
 use valuation::Cell;
@@ -30,7 +31,8 @@ ghost use Rattle.valuation.specs.Replies.{lookupReply, updatedReply, lastFixedR
 ghost use Rattle.valuation.specs.Valuation.{saysClause, asksEmpty, countsFixed, findsLast, gathersValues, listsValues, getsValue, asksValue, setsValue, unsetsValue, asksExtends, asksEqual};
 ghost use Rattle.making.specs.Made.{madeReply};
 ghost use Rattle.operators.specs.Operators.{makesAnd, makesOr, makesAndNot, makesForAll, makesExists};
-ghost use Rattle.exports.specs.Exports.{Exported, replyLength, replyWords, accepted, bufferWith, replyAfter, writtenWords};
+ghost use Rattle.unary.specs.Unary.{marksReply, negates, restricts, supports, countsCases};
+ghost use Rattle.exports.specs.Exports.{Exported, ExportedWork, replyLength, replyWords, accepted, bufferWith, replyAfter, writtenWords};
 
 // The least length of a reply's buffer.
 const REPLY_WORDS: usize = 64;
@@ -166,6 +168,15 @@ fn made_written(made: Made) -> Written
     match made {
         Made::Table(count) => value_written(count as u64),
         Made::Refused(r) => refusal_written(r),
+    }
+}
+
+fn marks_written(marks: Marks) -> Written
+    ensures { λ w. ⌜ writtenWords w ≡ padded (replyWords (marksReply marks)) 5 ⌝ }
+{
+    match marks {
+        Marks::Mask(mask) => value_written(mask),
+        Marks::Refused(r) => refusal_written(r),
     }
 }
 
@@ -444,4 +455,87 @@ pub extern "C" fn collartug_var_exists(
     }
     let made = operators::var_exists(n, count, bdd, BddVariable(variable), room, out, work);
     write_reply(reply, made_written(made))
+}
+
+#[no_mangle]
+pub extern "C" fn collartug_not(
+    n: u16,
+    count: usize,
+    bdd: &[u32],
+    room: usize,
+    out: &mut [u32],
+    work: &mut [u32],
+    reply: &mut [u64],
+) -> u64
+    ensures { λ r. ⌜ Exported (negates n count (now (bdd .entry)) room (now (out .entry)) (now (work .entry))) r (now (out .entry)) (now (out .exit)) (now (work .entry)) (now (work .exit)) (now (reply .entry)) (now (reply .exit)) ⌝ }
+{
+    if reply.len() < REPLY_WORDS {
+        return 0;
+    }
+    let made = unary::not(n, count, bdd, room, out, work);
+    write_reply(reply, made_written(made))
+}
+
+#[no_mangle]
+pub extern "C" fn collartug_var_restrict(
+    n: u16,
+    count: usize,
+    bdd: &[u32],
+    variable: u16,
+    value: u64,
+    room: usize,
+    out: &mut [u32],
+    work: &mut [u32],
+    reply: &mut [u64],
+) -> u64
+    ensures { λ r. ⌜ Exported (restricts n count (now (bdd .entry)) variable (not (eqb value 0)) room (now (out .entry)) (now (work .entry))) r (now (out .entry)) (now (out .exit)) (now (work .entry)) (now (work .exit)) (now (reply .entry)) (now (reply .exit)) ⌝ }
+{
+    if reply.len() < REPLY_WORDS {
+        return 0;
+    }
+    let made = unary::var_restrict(
+        n,
+        count,
+        bdd,
+        BddVariable(variable),
+        value != 0,
+        room,
+        out,
+        work,
+    );
+    write_reply(reply, made_written(made))
+}
+
+#[no_mangle]
+pub extern "C" fn collartug_support_set(
+    n: u16,
+    count: usize,
+    bdd: &[u32],
+    work: &mut [u32],
+    reply: &mut [u64],
+) -> u64
+    ensures { λ r. ⌜ ExportedWork (supports n count (now (bdd .entry)) (now (work .entry))) r (now (work .entry)) (now (work .exit)) (now (reply .entry)) (now (reply .exit)) ⌝ }
+{
+    if reply.len() < REPLY_WORDS {
+        return 0;
+    }
+    let marks = unary::support_set(n, count, bdd, work);
+    write_reply(reply, marks_written(marks))
+}
+
+#[no_mangle]
+pub extern "C" fn collartug_exact_cardinality(
+    n: u16,
+    count: usize,
+    bdd: &[u32],
+    work: &mut [u32],
+    reply: &mut [u64],
+) -> u64
+    ensures { λ r. ⌜ ExportedWork (countsCases n count (now (bdd .entry)) (now (work .entry))) r (now (work .entry)) (now (work .exit)) (now (reply .entry)) (now (reply .exit)) ⌝ }
+{
+    if reply.len() < REPLY_WORDS {
+        return 0;
+    }
+    let counted = unary::exact_cardinality(n, count, bdd, work);
+    write_reply(reply, counted_written(counted))
 }
