@@ -107,13 +107,8 @@ pub fn and(
     let Inspection::Sound(_) = admitted else {
         return Made::Refused(table::refusal_of(admitted));
     };
-    joined(
-        left,
-        right,
-        out,
-        work,
-        pair_job(n, AND, left_count, right_count, room),
-    )
+    let job = pair_job(n, AND, left_count, right_count, room);
+    joined(left, right, out, work, job)
 }
 
 // The table of: left or right.
@@ -144,13 +139,8 @@ pub fn or(
     let Inspection::Sound(_) = admitted else {
         return Made::Refused(table::refusal_of(admitted));
     };
-    joined(
-        left,
-        right,
-        out,
-        work,
-        pair_job(n, OR, left_count, right_count, room),
-    )
+    let job = pair_job(n, OR, left_count, right_count, room);
+    joined(left, right, out, work, job)
 }
 
 // The table of: left and not right.
@@ -181,13 +171,8 @@ pub fn and_not(
     let Inspection::Sound(_) = admitted else {
         return Made::Refused(table::refusal_of(admitted));
     };
-    joined(
-        left,
-        right,
-        out,
-        work,
-        pair_job(n, AND_NOT, left_count, right_count, room),
-    )
+    let job = pair_job(n, AND_NOT, left_count, right_count, room);
+    joined(left, right, out, work, job)
 }
 
 // The table of: yes whatever the mark is.
@@ -208,13 +193,8 @@ pub fn var_for_all(
     let Inspection::Sound(_) = admitted else {
         return Made::Refused(table::refusal_of(admitted));
     };
-    joined(
-        nodes,
-        nodes,
-        out,
-        work,
-        mark_job(n, AND, count, variable, room),
-    )
+    let job = mark_job(n, AND, count, variable, room);
+    joined(nodes, nodes, out, work, job)
 }
 
 // The table of: yes for some value of the mark.
@@ -235,11 +215,6 @@ pub fn var_exists(
     let Inspection::Sound(_) = admitted else {
         return Made::Refused(table::refusal_of(admitted));
     };
-    joined(
-        nodes,
-        nodes,
-        out,
-        work,
-        mark_job(n, OR, count, variable, room),
-    )
+    let job = mark_job(n, OR, count, variable, room);
+    joined(nodes, nodes, out, work, job)
 }

@@ -30,13 +30,14 @@ returns c =
 
 mark-job-requires : tie.Need-mark-job-requires
 mark-job-requires c κs =
-    let g = c .before .before .before .before .before .before .before .before .before .before .args in
-    mark-few (g .n) (g .count) (g .nodes .now) (g .room) (g .out .now) (g .work .now) (g .variable) _ (c .before .before .before .before .admit-table-room-mark .ensures) _ (c .before .before .enum-told .given .1)
+    let g = c .before .before .before .before .before .before .before .before .args in
+    mark-few (g .n) (g .count) (g .nodes .now) (g .room) (g .out .now) (g .work .now) (g .variable) _ (c .before .before .admit-table-room-mark .ensures) _ (c .enum-told .given .1)
 
 joined-requires : tie.Need-joined-requires
 joined-requires c κs =
-    let g = c .before .before .before .before .before .before .before .before .before .before .before .args in
-    mark-given (g .n) (g .count) (g .nodes .now) (g .room) (g .out .now) (g .work .now) (g .variable) _ (c .before .before .before .before .before .admit-table-room-mark .ensures) _ (c .before .before .before .enum-told .given .1) _ _ (c .mark-job .ensures)
+    let passed = c .before .before .before in
+    let g = passed .before .before .before .before .before .before .before .before .args in
+    mark-given (g .n) (g .count) (g .nodes .now) (g .room) (g .out .now) (g .work .now) (g .variable) _ (passed .before .before .admit-table-room-mark .ensures) _ (passed .enum-told .given .1) _ _ (c .before .before .mark-job .ensures)
 
 same-length-3 : tie.Need-same-length-3
 same-length-3 c = search needs
@@ -47,8 +48,10 @@ same-length-4 c = search needs
 returns-2 : tie.Need-returns-2
 unfolding makesForAll
 returns-2 c =
-    let g = c .before .before .before .before .before .before .before .before .before .before .before .before .before .before .before .before .args in
-    three _ _ _ _ _ _ (mark-outcome (g .n) (g .count) (g .nodes .now) (g .room) (g .out .now) (g .work .now) (g .variable) _ (c .before .before .before .before .before .before .before .before .before .before .admit-table-room-mark .ensures) _ (c .before .before .before .before .before .before .before .before .enum-told .given .1) _ _ and-table _ (c .before .before .before .before .before .mark-job .ensures) _ _ _ (c .before .before .before .before .joined .ensures))
+    let passed = c .before .before .before .before .before .before .before .before in
+    let g = passed .before .before .before .before .before .before .before .before .args in
+    three _ _ _ _ _ _
+    (mark-outcome (g .n) (g .count) (g .nodes .now) (g .room) (g .out .now) (g .work .now) (g .variable) _ (passed .before .before .admit-table-room-mark .ensures) _ (passed .enum-told .given .1) _ _ and-table _ (c .before .before .before .before .before .before .before .mark-job .ensures) _ _ _ (c .before .before .before .before .joined .ensures))
 
 pub var-for-all-spec : {M : Type 1} → statement M
 var-for-all-spec =
