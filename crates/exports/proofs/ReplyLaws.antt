@@ -7,11 +7,11 @@ use native.Mathlib.Decide.{decLt}
 use native.Mathlib.Nat.{zero-add, suc-add}
 use lib.ListN.{length, set, take, replicate, length-append, length-set}
 use borrow.Author.Tests.{lt-ltb, le-ltb}
-use Rattle.refusal.specs.Buffers.{padded}
+use Rattle.refusal.specs.Buffers.{padded, outputAfter, workAfter}
 use Rattle.refusal.specs.Verdict.{Reply, Verdict, replied}
 use Rattle.refusal.proofs.Zeroing.{length-padded}
 use Rattle.exports.specs.declared.Written.{Written}
-use Rattle.exports.specs.Exports.{replyLength, replyWords, accepted, bufferWith, replyAfter, writtenWords}
+use Rattle.exports.specs.Exports.{replyLength, replyWords, accepted, bufferWith, replyAfter, writtenWords, lentAfter, ExportedWork, Exported}
 
 -- five words stored at the front
 pub five-stored : (l : List ℕ) (w : Written) → replyLength ≤ length l
@@ -73,3 +73,32 @@ exported before after result w r v wrote words reply = (wrote .0, wrote .1 ∙ b
 pub filled : (before after : List ℕ) (r q : Reply) → replyLength ≤ length before → after ≡ padded (replyWords r) (length before) → r ≡ q → after ≡ bufferWith (replyWords q) before
 unfolding bufferWith
 filled before after r q h e same = rw (le-ltb (length before) replyLength h) (e ∙ ap (λ x. padded (replyWords x) (length before)) same)
+
+-- an entry with work: nothing is touched where the reply's buffer is too short
+module _ (v : Verdict) (work reply : List ℕ) where
+  pub worked-none : length reply < replyLength → ExportedWork v 0 work work reply reply
+  unfolding lentAfter
+  worked-none h = record {
+    returned = rw (lt-ltb (length reply) replyLength h);
+    replies = left-alone reply (replyWords (replied v)) h;
+    memory = rw (lt-ltb (length reply) replyLength h);
+  }
+
+  pub worked-all : (work′ reply′ : List ℕ) (r : ℕ) (w : Written) (answer : Reply) → replyLength ≤ length reply
+      → (r ≡ accepted reply) × (reply′ ≡ bufferWith (writtenWords w) reply) → writtenWords w ≡ padded (replyWords answer) 5 → answer ≡ replied v
+      → work′ ≡ workAfter v work → ExportedWork v r work work′ reply reply′
+  unfolding lentAfter
+  worked-all work′ reply′ r w answer h wrote words is m =
+      let e : (r ≡ accepted reply) × (reply′ ≡ replyAfter v reply) = exported reply reply′ r w answer v wrote words is in
+      record { returned = e .0; replies = e .1; memory = rw (le-ltb (length reply) replyLength h) m }
+
+  -- and with an output beside it
+  module _ (out : List ℕ) where
+    pub exported-none : length reply < replyLength → Exported v 0 out out work work reply reply
+    unfolding lentAfter
+    exported-none h = record { rest = worked-none h; output = rw (lt-ltb (length reply) replyLength h) }
+
+    pub exported-all : (out′ work′ reply′ : List ℕ) (r : ℕ) → replyLength ≤ length reply → out′ ≡ outputAfter 0 v out → ExportedWork v r work work′ reply reply′
+        → Exported v r out out′ work work′ reply reply′
+    unfolding lentAfter
+    exported-all out′ work′ reply′ r h o rest = record { rest = rest; output = rw (le-ltb (length reply) replyLength h) o }

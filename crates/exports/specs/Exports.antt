@@ -1,11 +1,12 @@
 -- What an export leaves in the reply's buffer.
+use mathlib.Core.Path.{_≡_}
 use mathlib.Core.Bool.{cond}
 use mathlib.Core.List.{List, [], _∷_}
 use Prim.Native.Nat.{ℕ}
 use lib.Dec.{ltb}
 use lib.ListN.{length}
 use Rattle.refusal.specs.Verdict.{Verdict, Reply, replied}
-use Rattle.refusal.specs.Buffers.{padded}
+use Rattle.refusal.specs.Buffers.{padded, outputAfter, workAfter}
 use Rattle.exports.specs.declared.Written.{Written}
 
 -- the least length of a reply's buffer
@@ -30,3 +31,18 @@ replyAfter v = bufferWith (replyWords (replied v))
 -- the first words of a reply, zeros behind its values
 abbrev pub writtenWords : Written → List ℕ
 writtenWords w = w .number ∷ w .place ∷ w .first ∷ w .second ∷ w .third ∷ []
+
+-- a lent buffer after the call: as the entry leaves it, or as it was where the reply's buffer is too short
+unfoldable pub lentAfter : List ℕ → List ℕ → List ℕ → List ℕ
+lentAfter reply after before = cond (ltb (length reply) replyLength) before after
+
+-- what an export of an entry with work alone leaves
+pub record ExportedWork (v : Verdict) (r : ℕ) (work work′ reply reply′ : List ℕ) : Type 0 where
+  pub returned : r ≡ accepted reply
+  pub replies : reply′ ≡ replyAfter v reply
+  pub memory : work′ ≡ lentAfter reply (workAfter v work) work
+
+-- what an export of an entry with an output and work leaves
+pub record Exported (v : Verdict) (r : ℕ) (out out′ work work′ reply reply′ : List ℕ) : Type 0 where
+  pub rest : ExportedWork v r work work′ reply reply′
+  pub output : out′ ≡ lentAfter reply (outputAfter 0 v out) out

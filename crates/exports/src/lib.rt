@@ -1,9 +1,11 @@
 // The public entries for C and Rust: numbers and slices in, the reply into a lent buffer.
 // Each call returns 1; where the reply's buffer has under 64 words it returns 0 and touches nothing.
+use making::Made;
 use refusal::Counted;
 use refusal::Refusal;
 use refusal::Truth;
 use table::Inspection;
+use unary::Marks;
 use valuation::BddPartialValuation;
 use valuation::BddVariable;
 use valuation::Cell;
@@ -27,7 +29,10 @@ ghost use Rattle.refusal.specs.Counted.{countedReply};
 ghost use Rattle.refusal.specs.Verdict.{replied};
 ghost use Rattle.valuation.specs.Replies.{lookupReply, updatedReply, lastFixedReply, valueListReply, repliedIn};
 ghost use Rattle.valuation.specs.Valuation.{saysClause, asksEmpty, countsFixed, findsLast, gathersValues, listsValues, getsValue, asksValue, setsValue, unsetsValue, asksExtends, asksEqual};
-ghost use Rattle.exports.specs.Exports.{replyLength, replyWords, accepted, bufferWith, replyAfter, writtenWords};
+ghost use Rattle.making.specs.Made.{madeReply};
+ghost use Rattle.operators.specs.Operators.{makesAnd, makesOr, makesAndNot, makesForAll, makesExists};
+ghost use Rattle.unary.specs.Unary.{marksReply, negates, restricts, supports, countsCases};
+ghost use Rattle.exports.specs.Exports.{Exported, ExportedWork, replyLength, replyWords, accepted, bufferWith, replyAfter, writtenWords};
 
 // The least length of a reply's buffer.
 const REPLY_WORDS: usize = 64;
@@ -154,6 +159,24 @@ fn last_fixed_written(last: LastFixed) -> Written
         LastFixed::Variable(variable) => pair_written(1, variable.0 as u64),
         LastFixed::Nothing => value_written(0),
         LastFixed::Refused(r) => refusal_written(r),
+    }
+}
+
+fn made_written(made: Made) -> Written
+    ensures { λ w. ⌜ writtenWords w ≡ padded (replyWords (madeReply made)) 5 ⌝ }
+{
+    match made {
+        Made::Table(count) => value_written(count as u64),
+        Made::Refused(r) => refusal_written(r),
+    }
+}
+
+fn marks_written(marks: Marks) -> Written
+    ensures { λ w. ⌜ writtenWords w ≡ padded (replyWords (marksReply marks)) 5 ⌝ }
+{
+    match marks {
+        Marks::Mask(mask) => value_written(mask),
+        Marks::Refused(r) => refusal_written(r),
     }
 }
 
@@ -329,4 +352,190 @@ pub extern "C" fn collartug_to_values(fixed: u64, values: u64, reply: &mut [u64]
     let v = BddPartialValuation { fixed, values };
     write_values(reply, v.to_values());
     1
+}
+
+#[no_mangle]
+pub extern "C" fn collartug_and(
+    n: u16,
+    left_count: usize,
+    left: &[u32],
+    right_count: usize,
+    right: &[u32],
+    room: usize,
+    out: &mut [u32],
+    work: &mut [u32],
+    reply: &mut [u64],
+) -> u64
+    ensures { λ r. ⌜ Exported (makesAnd n «left_count» (now (left .entry)) «right_count» (now (right .entry)) room (now (out .entry)) (now (work .entry))) r (now (out .entry)) (now (out .exit)) (now (work .entry)) (now (work .exit)) (now (reply .entry)) (now (reply .exit)) ⌝ }
+{
+    if reply.len() < REPLY_WORDS {
+        return 0;
+    }
+    let made = operators::and(n, left_count, left, right_count, right, room, out, work);
+    write_reply(reply, made_written(made))
+}
+
+#[no_mangle]
+pub extern "C" fn collartug_or(
+    n: u16,
+    left_count: usize,
+    left: &[u32],
+    right_count: usize,
+    right: &[u32],
+    room: usize,
+    out: &mut [u32],
+    work: &mut [u32],
+    reply: &mut [u64],
+) -> u64
+    ensures { λ r. ⌜ Exported (makesOr n «left_count» (now (left .entry)) «right_count» (now (right .entry)) room (now (out .entry)) (now (work .entry))) r (now (out .entry)) (now (out .exit)) (now (work .entry)) (now (work .exit)) (now (reply .entry)) (now (reply .exit)) ⌝ }
+{
+    if reply.len() < REPLY_WORDS {
+        return 0;
+    }
+    let made = operators::or(n, left_count, left, right_count, right, room, out, work);
+    write_reply(reply, made_written(made))
+}
+
+#[no_mangle]
+pub extern "C" fn collartug_and_not(
+    n: u16,
+    left_count: usize,
+    left: &[u32],
+    right_count: usize,
+    right: &[u32],
+    room: usize,
+    out: &mut [u32],
+    work: &mut [u32],
+    reply: &mut [u64],
+) -> u64
+    ensures { λ r. ⌜ Exported (makesAndNot n «left_count» (now (left .entry)) «right_count» (now (right .entry)) room (now (out .entry)) (now (work .entry))) r (now (out .entry)) (now (out .exit)) (now (work .entry)) (now (work .exit)) (now (reply .entry)) (now (reply .exit)) ⌝ }
+{
+    if reply.len() < REPLY_WORDS {
+        return 0;
+    }
+    let made = operators::and_not(n, left_count, left, right_count, right, room, out, work);
+    write_reply(reply, made_written(made))
+}
+
+#[no_mangle]
+pub extern "C" fn collartug_var_for_all(
+    n: u16,
+    count: usize,
+    bdd: &[u32],
+    variable: u16,
+    room: usize,
+    out: &mut [u32],
+    work: &mut [u32],
+    reply: &mut [u64],
+) -> u64
+    ensures { λ r. ⌜ Exported (makesForAll n count (now (bdd .entry)) variable room (now (out .entry)) (now (work .entry))) r (now (out .entry)) (now (out .exit)) (now (work .entry)) (now (work .exit)) (now (reply .entry)) (now (reply .exit)) ⌝ }
+{
+    if reply.len() < REPLY_WORDS {
+        return 0;
+    }
+    let made = operators::var_for_all(n, count, bdd, BddVariable(variable), room, out, work);
+    write_reply(reply, made_written(made))
+}
+
+#[no_mangle]
+pub extern "C" fn collartug_var_exists(
+    n: u16,
+    count: usize,
+    bdd: &[u32],
+    variable: u16,
+    room: usize,
+    out: &mut [u32],
+    work: &mut [u32],
+    reply: &mut [u64],
+) -> u64
+    ensures { λ r. ⌜ Exported (makesExists n count (now (bdd .entry)) variable room (now (out .entry)) (now (work .entry))) r (now (out .entry)) (now (out .exit)) (now (work .entry)) (now (work .exit)) (now (reply .entry)) (now (reply .exit)) ⌝ }
+{
+    if reply.len() < REPLY_WORDS {
+        return 0;
+    }
+    let made = operators::var_exists(n, count, bdd, BddVariable(variable), room, out, work);
+    write_reply(reply, made_written(made))
+}
+
+#[no_mangle]
+pub extern "C" fn collartug_not(
+    n: u16,
+    count: usize,
+    bdd: &[u32],
+    room: usize,
+    out: &mut [u32],
+    work: &mut [u32],
+    reply: &mut [u64],
+) -> u64
+    ensures { λ r. ⌜ Exported (negates n count (now (bdd .entry)) room (now (out .entry)) (now (work .entry))) r (now (out .entry)) (now (out .exit)) (now (work .entry)) (now (work .exit)) (now (reply .entry)) (now (reply .exit)) ⌝ }
+{
+    if reply.len() < REPLY_WORDS {
+        return 0;
+    }
+    let made = unary::not(n, count, bdd, room, out, work);
+    write_reply(reply, made_written(made))
+}
+
+#[no_mangle]
+pub extern "C" fn collartug_var_restrict(
+    n: u16,
+    count: usize,
+    bdd: &[u32],
+    variable: u16,
+    value: u64,
+    room: usize,
+    out: &mut [u32],
+    work: &mut [u32],
+    reply: &mut [u64],
+) -> u64
+    ensures { λ r. ⌜ Exported (restricts n count (now (bdd .entry)) variable (not (eqb value 0)) room (now (out .entry)) (now (work .entry))) r (now (out .entry)) (now (out .exit)) (now (work .entry)) (now (work .exit)) (now (reply .entry)) (now (reply .exit)) ⌝ }
+{
+    if reply.len() < REPLY_WORDS {
+        return 0;
+    }
+    let made = unary::var_restrict(
+        n,
+        count,
+        bdd,
+        BddVariable(variable),
+        value != 0,
+        room,
+        out,
+        work,
+    );
+    write_reply(reply, made_written(made))
+}
+
+#[no_mangle]
+pub extern "C" fn collartug_support_set(
+    n: u16,
+    count: usize,
+    bdd: &[u32],
+    work: &mut [u32],
+    reply: &mut [u64],
+) -> u64
+    ensures { λ r. ⌜ ExportedWork (supports n count (now (bdd .entry)) (now (work .entry))) r (now (work .entry)) (now (work .exit)) (now (reply .entry)) (now (reply .exit)) ⌝ }
+{
+    if reply.len() < REPLY_WORDS {
+        return 0;
+    }
+    let marks = unary::support_set(n, count, bdd, work);
+    write_reply(reply, marks_written(marks))
+}
+
+#[no_mangle]
+pub extern "C" fn collartug_exact_cardinality(
+    n: u16,
+    count: usize,
+    bdd: &[u32],
+    work: &mut [u32],
+    reply: &mut [u64],
+) -> u64
+    ensures { λ r. ⌜ ExportedWork (countsCases n count (now (bdd .entry)) (now (work .entry))) r (now (work .entry)) (now (work .exit)) (now (reply .entry)) (now (reply .exit)) ⌝ }
+{
+    if reply.len() < REPLY_WORDS {
+        return 0;
+    }
+    let counted = unary::exact_cardinality(n, count, bdd, work);
+    write_reply(reply, counted_written(counted))
 }

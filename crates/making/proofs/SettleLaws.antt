@@ -1,12 +1,12 @@
 -- The constants stored at the front, and the buffers settled.
-use mathlib.Core.Path.{_≡_, refl, sym, subst}
-use mathlib.Core.List.{List, [], _∷_}
+use mathlib.Core.Path.{_≡_, refl, sym, ap, subst, _∙_}
+use mathlib.Core.List.{List, [], _∷_, _++_}
 use Prim.Native.Nat.{ℕ, _*_, _≤_}
 use native.Mathlib.Omega.{arith}
-use lib.ListN.{length, set, take}
-use lib.Seq.{getD-set-other}
-use Rattle.theory.specs.Table.{constants}
-use Rattle.theory.specs.Words.{stride, nodes}
+use lib.ListN.{length, getD, take, length-set}
+use Rattle.theory.specs.Table.{node, constants}
+use Rattle.theory.specs.Words.{stride, nodes, withNode}
+use Rattle.theory.proofs.Words.{nodes-push, node-beyond}
 use Rattle.refusal.specs.Number.{NODES}
 use Rattle.refusal.specs.Buffers.{padded}
 use Rattle.making.specs.declared.Made.the-variants as made
@@ -14,30 +14,23 @@ use Rattle.making.specs.declared.Tabled.{Tabled}
 use Rattle.making.specs.declared.Tabled.the-variants.{Count, Over}
 use Rattle.making.specs.Made.{Beyond, Settling, Settles}
 
--- six words stored at the front
-abbrev six : List ℕ → ℕ → List ℕ
-six l n = set (set (set (set (set (set l 0 n) 1 0) 2 0) 3 n) 4 1) 5 1
+-- the constants, one after the other
+module _ (l l₁ l₂ : List ℕ) (n : ℕ) (h : stride * 2 ≤ length l) (e₁ : l₁ ≡ withNode l 0 n 0 0) (e₂ : l₂ ≡ withNode l₁ 1 n 1 1) where
+  pub still-long : length l₁ ≡ length l
+  still-long = ap length e₁ ∙ simp length-set
 
-pub constants-stored : (l : List ℕ) (n : ℕ) → stride * 2 ≤ length l → nodes 2 (six l n) ≡ constants n
-unfolding nodes
-constants-stored [] n h = absurd (let z : ⊥ = omega arith in z)
-constants-stored (a ∷ []) n h = absurd (let z : ⊥ = omega arith in z)
-constants-stored (a ∷ b ∷ []) n h = absurd (let z : ⊥ = omega arith in z)
-constants-stored (a ∷ b ∷ c ∷ []) n h = absurd (let z : ⊥ = omega arith in z)
-constants-stored (a ∷ b ∷ c ∷ d ∷ []) n h = absurd (let z : ⊥ = omega arith in z)
-constants-stored (a ∷ b ∷ c ∷ d ∷ e ∷ []) n h = absurd (let z : ⊥ = omega arith in z)
-constants-stored (a ∷ b ∷ c ∷ d ∷ e ∷ f ∷ l) n h = refl
+  first-stored : nodes 1 l₁ ≡ node n 0 0 ∷ []
+  unfolding nodes
+  first-stored = ap (nodes 1) e₁ ∙ nodes-push 0 l n 0 0 (omega arith)
 
-pub constants-beyond : (l : List ℕ) (n : ℕ) → Beyond 2 l (six l n)
-constants-beyond l n i h =
-    rw (
-      getD-set-other {A = ℕ} _ 5 i 1 0 (omega arith),
-      getD-set-other {A = ℕ} _ 4 i 1 0 (omega arith),
-      getD-set-other {A = ℕ} _ 3 i n 0 (omega arith),
-      getD-set-other {A = ℕ} _ 2 i 0 0 (omega arith),
-      getD-set-other {A = ℕ} _ 1 i 0 0 (omega arith),
-      getD-set-other {A = ℕ} _ 0 i n 0 (omega arith),
-    )
+  pub constants-stored : nodes 2 l₂ ≡ constants n
+  constants-stored =
+      ap (nodes 2) e₂
+      ∙ nodes-push 1 l₁ n 1 1 (omega (arith, still-long))
+      ∙ ap (λ s. s ++ (node n 1 1 ∷ [])) first-stored
+
+  pub constants-beyond : Beyond 2 l l₂
+  constants-beyond i g = ap (λ w. getD w i 0) e₂ ∙ node-beyond 1 l₁ n 1 1 i (omega arith) ∙ ap (λ w. getD w i 0) e₁ ∙ node-beyond 0 l n 0 0 i (omega arith)
 
 -- what settling was asked, where the core left a table
 pub table-within : (t : Tabled) (c : ℕ) (out : List ℕ) → t ≡ Count c → Settling t out → stride * c ≤ length out

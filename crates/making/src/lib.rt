@@ -11,7 +11,9 @@ use refusal::MAX_NODES;
 use refusal::MIN_ROOM;
 use refusal::NODES;
 use refusal::Refusal;
+use table::BddPointer;
 use table::NODE_WORDS;
+use valuation::BddVariable;
 
 // The answer: the result's node count.
 pub enum Made {
@@ -61,13 +63,8 @@ pub fn put_constants(out: &mut [u32], n: u16)
     ensures { λ _. ⌜ nodes 2 (now (out .exit)) ≡ constants n ⌝ }
     ensures { λ _. ⌜ Beyond 2 (now (out .entry)) (now (out .exit)) ⌝ }
 {
-    let mark = n as u32;
-    out[0] = mark;
-    out[1] = 0;
-    out[2] = 0;
-    out[3] = mark;
-    out[4] = 1;
-    out[5] = 1;
+    table::put_node(out, 0, BddVariable(n), BddPointer(0), BddPointer(0));
+    table::put_node(out, 1, BddVariable(n), BddPointer(1), BddPointer(1));
 }
 
 // Zeros behind the result, and in the work memory; all zeros where there was no room.

@@ -3,31 +3,26 @@ use mathlib.Core.Path.{_≡_, sym, ap, subst, _∙_}
 use mathlib.Core.Bool.{true, false, cond}
 use mathlib.Core.List.{List, [], _∷_, _++_}
 use mathlib.Core.Logic.{_⊎_, inl, inr}
-use Prim.Native.Nat.{ℕ, suc, _+_, _*_, _<_, _≤_}
+use Prim.Native.Nat.{ℕ, suc, _+_, _<_, _≤_}
 use native.Mathlib.Omega.{arith}
-use lib.ListN.{length, getD, set, length-append}
-use lib.Seq.{getD-set-other}
+use lib.ListN.{length, getD, length-append}
 use Rattle.theory.specs.Table.{Node, node, Table, at, same, find, grow, mk}
-use Rattle.theory.specs.Words.{nodes}
+use Rattle.theory.specs.Words.{nodes, withNode}
 use Rattle.theory.proofs.Step.{inner}
 use Rattle.theory.proofs.Find.{same-refl, find-is, find-none, Fresh, Present, grow-cases, mk-same, mk-other}
-use Rattle.theory.proofs.Words.{length-nodes, at-nodes, nodes-push}
+use Rattle.theory.proofs.Words.{length-nodes, at-nodes, nodes-push, node-beyond}
 use Rattle.making.specs.Made.{Beyond}
 use Rattle.pool.specs.declared.Found.{Found}
 use Rattle.pool.specs.declared.Found.the-variants.{Nowhere}
 use Rattle.pool.specs.declared.Noted.{Noted}
-use Rattle.pool.specs.Pool.{withNode, Hit, Miss, Searched, Pushing, Noding, Holds, Answers, pushed}
+use Rattle.pool.specs.Pool.{Hit, Miss, Searched, Pushing, Noding, Holds, Answers, pushed}
 
 pub differs : (x y : Node) → same x y ≡ false → x ≡ y → ⊥
 differs x y f e = let z : _≡_ {A = ℕ} 1 0 = ap (λ b. cond b 1 0) (sym (same-refl x) ∙ ap (same x) e ∙ f) in omega arith
 
 -- a push changes nothing from the room on
 pub beyond-push : (room k v p q : ℕ) (w w′ : List ℕ) → k < room → w′ ≡ withNode w k v p q → Beyond room w w′
-beyond-push room k v p q w w′ h e i g =
-    ap (λ l. getD l i 0) e
-    ∙ getD-set-other (set (set w (3 * k) v) (3 * k + 1) p) (3 * k + 2) i q 0 (omega arith)
-    ∙ getD-set-other (set w (3 * k) v) (3 * k + 1) i p 0 (omega arith)
-    ∙ getD-set-other w (3 * k) i v 0 (omega arith)
+beyond-push room k v p q w w′ h e i g = ap (λ l. getD l i 0) e ∙ node-beyond k w v p q i (omega arith)
 
 -- a node pushed
 module _ (w : List ℕ) (room k v p q : ℕ) (r : Pushing w room k) where

@@ -2,7 +2,7 @@
 use mathlib.Core.Path.{_≡_}
 use mathlib.Core.List.{List, [], _∷_, _++_}
 use Prim.Native.Nat.{ℕ, suc, _+_, _*_, _<_, _≤_}
-use lib.ListN.{length, set}
+use lib.ListN.{length}
 use Rattle.theory.specs.Table.{node, Table, Good}
 use Rattle.theory.specs.Words.{stride, nodeAt, nodes}
 use Rattle.theory.proofs.Step.{Stands}
@@ -11,10 +11,6 @@ use Rattle.pool.specs.declared.Found.{Found}
 use Rattle.pool.specs.declared.Found.the-variants.{At, Nowhere}
 use Rattle.pool.specs.declared.Noted.{Noted}
 use Rattle.pool.specs.declared.Noted.the-variants.{Node as Got, Full}
-
--- the words with a node stored at place k
-abbrev pub withNode : List ℕ → ℕ → ℕ → ℕ → ℕ → List ℕ
-withNode w k v p q = set (set (set w (stride * k) v) (stride * k + 1) p) (stride * k + 2) q
 
 -- node i is the one that is looked for
 pub record Hit (w : List ℕ) (k v p q i : ℕ) : Type 0 where

@@ -5,9 +5,8 @@ ghost use lib.ListN.{length};
 ghost use Rattle.theory.specs.Table.{mk};
 ghost use Rattle.theory.specs.Words.{stride, nodes};
 ghost use Rattle.making.specs.Made.{Beyond};
-ghost use Rattle.pool.specs.Pool.{withNode, Searched, Noding, Answers, Pushing, pushed};
+ghost use Rattle.pool.specs.Pool.{Searched, Noding, Answers, Pushing, pushed};
 use table::BddPointer;
-use table::NODE_WORDS;
 use valuation::BddVariable;
 
 pub enum Found {
@@ -19,23 +18,6 @@ pub enum Found {
 pub enum Noted {
     Node(BddPointer, u32),
     Full,
-}
-
-// Stores a node at its place.
-pub fn put_node(
-    bdd: &mut [u32],
-    place: u32,
-    variable: BddVariable,
-    low: BddPointer,
-    high: BddPointer,
-)
-    requires { ⌜ stride * place + stride ≤ length (now bdd) ⌝ }
-    ensures { λ _. ⌜ now (bdd .exit) ≡ withNode (now (bdd .entry)) place (variable .0) (low .0) (high .0) ⌝ }
-{
-    let at = NODE_WORDS * (place as usize);
-    bdd[at] = variable.0 as u32;
-    bdd[at + 1] = low.0;
-    bdd[at + 2] = high.0;
 }
 
 fn greater(low: BddPointer, high: BddPointer) -> u32
@@ -82,7 +64,7 @@ pub fn push_node(
     if count >= room {
         return Noted::Full;
     }
-    put_node(bdd, count, variable, low, high);
+    table::put_node(bdd, count, variable, low, high);
     Noted::Node(BddPointer(count), count + 1)
 }
 

@@ -17,6 +17,7 @@ use Rattle.theory.specs.Table.{Node, node, Table, at, childOf, treeOf, says, me
 use Rattle.theory.specs.Words.{nodeAt, nodes}
 use Rattle.theory.proofs.Masks.{bit-past}
 use Rattle.theory.proofs.Trailing.{tz-below, tz-at, bit-add}
+use Rattle.theory.proofs.Step.{mark-le}
 use Rattle.theory.proofs.Cases.{says-look}
 use Rattle.theory.proofs.Levels.{nodeSays, nodeSays-level, nodeSays-step, nodeSays-bottom}
 use Rattle.theory.proofs.Words.{at-nodes, length-nodes}
@@ -105,11 +106,6 @@ pub low-for : (x : Node) (case v r : ℕ) → v ≡ x .mark → false ≡ bit v 
 low-for x case v r e b h = rw (← e, ← b) h
 
 module _ (n : ℕ) (s : Table) (o : Ordered n s) where
-  mark-le : (p : ℕ) → p < length s → (at s p) .mark ≤ n
-  mark-le zero h = omega (arith, ap (λ (x : Node). x .mark) (o .first))
-  mark-le (suc zero) h = omega (arith, ap (λ (x : Node). x .mark) (o .second h))
-  mark-le (suc (suc p)) h = omega (arith, o .marks (suc (suc p)) (omega arith) h)
-
   -- a constant says what its number is
   constant-says : (p case : ℕ) → p < length s → p < 2 → eqb p 1 ≡ nodeSays n s p case
   constant-says zero case h k = sym (nodeSays-bottom n s 0 case (ap (λ (x : Node). x .mark) (o .first)))

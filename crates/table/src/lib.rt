@@ -4,7 +4,7 @@ ghost use mathlib.Core.Bool.{Bool, true, false};
 ghost use Prim.Native.Nat.{ℕ, _+_, _*_, _-_, _<_, _≤_};
 ghost use lib.ListN.{length, getD};
 ghost use Rattle.theory.specs.Table.{Node, node, same, linkOk, nodeOk};
-ghost use Rattle.theory.specs.Words.{stride, nodeAt, nodes};
+ghost use Rattle.theory.specs.Words.{stride, nodeAt, nodes, withNode};
 ghost use Rattle.refusal.specs.Limits.{maxMarks, maxNodes};
 ghost use Rattle.refusal.specs.Verdict.{replied, refusedWith};
 ghost use Rattle.refusal.specs.Truth.{truthReply};
@@ -73,6 +73,23 @@ fn link_ok(count: usize, bdd: &[u32], p: BddPointer, to: BddPointer) -> bool
         return false;
     }
     mark_word(bdd, p) < mark_word(bdd, to)
+}
+
+// Stores a node at its place.
+pub fn put_node(
+    bdd: &mut [u32],
+    place: u32,
+    variable: BddVariable,
+    low: BddPointer,
+    high: BddPointer,
+)
+    requires { ⌜ stride * place + stride ≤ length (now bdd) ⌝ }
+    ensures { λ _. ⌜ now (bdd .exit) ≡ withNode (now (bdd .entry)) place (variable .0) (low .0) (high .0) ⌝ }
+{
+    let at = NODE_WORDS * (place as usize);
+    bdd[at] = variable.0 as u32;
+    bdd[at + 1] = low.0;
+    bdd[at + 2] = high.0;
 }
 
 // Node p has that mark and those links.

@@ -16,3 +16,5 @@ pub mod Trailing
 pub mod Marks
 pub mod Clauses
 pub mod Gathers
+pub mod Turned
+pub mod Support

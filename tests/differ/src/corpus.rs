@@ -3,6 +3,7 @@ use crate::convert::{as_made, to_valuation, to_variable};
 use crate::random::Random;
 use crate::reading::Valuation;
 use biodivine_lib_bdd::{Bdd, BddVariableSet};
+use std::collections::HashMap;
 
 /// The most nodes that a call takes.
 pub const MOST_NODES: usize = 4096;
@@ -12,6 +13,7 @@ pub enum Meaning {
     Dnf(Vec<Valuation>),
     Cnf(Vec<Valuation>),
     Parity(u64),
+    Sum(Sum),
 }
 
 impl Meaning {
@@ -22,6 +24,7 @@ impl Meaning {
             Meaning::Dnf(clauses) => clauses.iter().any(all),
             Meaning::Cnf(clauses) => clauses.iter().all(any),
             Meaning::Parity(marks) => (case & marks).count_ones() % 2 == 1,
+            Meaning::Sum(sum) => sum.holds(case),
         }
     }
 
@@ -32,6 +35,7 @@ impl Meaning {
             Meaning::Dnf(clauses) => set.mk_dnf(&each(clauses)),
             Meaning::Cnf(clauses) => set.mk_cnf(&each(clauses)),
             Meaning::Parity(marks) => parity(&set, *marks),
+            Meaning::Sum(sum) => sum.build(),
         }
     }
 }
@@ -39,6 +43,66 @@ impl Meaning {
 fn parity(set: &BddVariableSet, marks: u64) -> Bdd {
     let literals = (0..set.num_vars()).filter(|mark| marks >> mark & 1 == 1).map(|mark| set.mk_literal(to_variable(mark), true));
     literals.fold(set.mk_false(), |so_far, literal| so_far.xor(&literal))
+}
+
+/// The weights of the marks that are 1, added up modulo at most 64, give a number with its bit in `accepted`.
+#[derive(Clone)]
+pub struct Sum {
+    pub weights: Vec<usize>,
+    pub modulus: usize,
+    pub accepted: u64,
+}
+
+impl Sum {
+    fn holds(&self, case: u64) -> bool {
+        let sum: usize = self.weights.iter().enumerate().map(|(mark, weight)| weight * (case >> mark & 1) as usize).sum();
+        self.accepts(sum % self.modulus)
+    }
+
+    fn accepts(&self, sum: usize) -> bool {
+        self.accepted >> sum & 1 == 1
+    }
+
+    /// Each mark and sum so far is followed up once: there is no need to join tables.
+    fn build(&self) -> Bdd {
+        let n = self.weights.len() as u16;
+        let mut growing = Growing { nodes: vec![(n, 0, 0), (n, 1, 1)], found: HashMap::new(), followed: HashMap::new() };
+        match self.follow(&mut growing, 0, 0) {
+            0 => Bdd::mk_false(n),
+            _ => Bdd::from_triples(&growing.nodes),
+        }
+    }
+
+    fn follow(&self, growing: &mut Growing, mark: usize, sum: usize) -> u32 {
+        if mark == self.weights.len() {
+            return u32::from(self.accepts(sum));
+        }
+        if let Some(node) = growing.followed.get(&(mark, sum)) {
+            return *node;
+        }
+        let low = self.follow(growing, mark + 1, sum);
+        let high = self.follow(growing, mark + 1, (sum + self.weights[mark]) % self.modulus);
+        let node = if low == high { low } else { growing.node((mark as u16, low, high)) };
+        growing.followed.insert((mark, sum), node);
+        node
+    }
+}
+
+/// A table that grows without doubled nodes.
+struct Growing {
+    nodes: Vec<(u16, u32, u32)>,
+    found: HashMap<(u16, u32, u32), u32>,
+    followed: HashMap<(usize, usize), u32>,
+}
+
+impl Growing {
+    fn node(&mut self, triple: (u16, u32, u32)) -> u32 {
+        let nodes = &mut self.nodes;
+        *self.found.entry(triple).or_insert_with(|| {
+            nodes.push(triple);
+            nodes.len() as u32 - 1
+        })
+    }
 }
 
 /// A table that the oracle built, with its meaning.
@@ -50,7 +114,7 @@ pub struct Built {
 
 impl Built {
     /// None where the table is larger than a call takes.
-    fn new(n: u16, meaning: Meaning) -> Option<Built> {
+    pub fn new(n: u16, meaning: Meaning) -> Option<Built> {
         let bdd = meaning.build(n);
         (bdd.size() <= MOST_NODES).then_some(Built { n, bdd, meaning })
     }
@@ -105,6 +169,13 @@ pub fn large(random: &mut Random, many: usize) -> Vec<Built> {
     let made: Vec<Built> = (0..many).filter_map(|_| Built::new(16, Meaning::Dnf(cases(random)))).collect();
     assert!(made.len() == many && made.iter().all(|table| table.bdd.size() > 3000), "not large, or too large");
     made
+}
+
+/// Clauses whose literals lie close together, so that a table over many marks stays within a call's limits.
+pub fn windowed(random: &mut Random, n: u16, many: usize, literals: usize, window: u16) -> Vec<Valuation> {
+    let shifted = |v: Valuation, by: usize| Valuation { fixed: v.fixed << by, values: v.values << by };
+    let starts = usize::from(n - window) + 1;
+    (0..many).map(|_| shifted(clause(random, window, literals), random.below(starts))).collect()
 }
 
 /// An ordered table of `count` nodes over n marks, neither reduced nor reachable as a rule. Without marks it has at most two nodes.

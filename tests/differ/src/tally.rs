@@ -1,5 +1,5 @@
 //! Counts the calls of each entry and its refusals, and objects where a refusal that an entry can give was never seen.
-use crate::answer::{compare, Answer, Outcome, CLAUSE, LEAST_REPLY, LIMIT, SHORT, TABLE, VARIABLE};
+use crate::answer::{compare, Answer, Outcome, CLAUSE, LEAST_REPLY, LIMIT, NODES, SHORT, TABLE, VARIABLE};
 use crate::proved::Room;
 use std::collections::{BTreeMap, BTreeSet};
 
@@ -8,6 +8,14 @@ pub struct Entry {
     pub name: &'static str,
     pub refusals: &'static [u64],
     first_values: &'static [u64],
+}
+
+impl Entry {
+    /// An answer for each first value that is wanted, or one of any kind.
+    pub fn firsts(&self) -> impl Iterator<Item = Answer> + '_ {
+        let values = if self.first_values.is_empty() { &[0] } else { self.first_values };
+        values.iter().map(|value| Answer::given(vec![*value]))
+    }
 }
 
 const fn entry(name: &'static str, refusals: &'static [u64], first_values: &'static [u64]) -> Entry {
@@ -37,6 +45,26 @@ pub const ENTRIES: [Entry; 14] = [
     entry("eq", &[CLAUSE], EITHER),
 ];
 
+/// Refusals of the operators that make a table, without and with a mark, and of those that answer a number.
+const MAKING: &[u64] = &[LIMIT, SHORT, TABLE, NODES];
+const MAKING_WITH_MARK: &[u64] = &[LIMIT, SHORT, VARIABLE, TABLE, NODES];
+const MEASURING: &[u64] = &[LIMIT, SHORT, TABLE];
+/// False, true, a single mark, the greatest table: node counts that a run must have seen.
+const SIZES: &[u64] = &[1, 2, 3, 4096];
+
+/// The operators; the sample does not show them.
+pub const OPERATORS: [Entry; 9] = [
+    entry("not", MAKING, SIZES),
+    entry("and", MAKING, SIZES),
+    entry("or", MAKING, SIZES),
+    entry("and_not", MAKING, SIZES),
+    entry("var_for_all", MAKING_WITH_MARK, SIZES),
+    entry("var_exists", MAKING_WITH_MARK, SIZES),
+    entry("var_restrict", MAKING_WITH_MARK, SIZES),
+    entry("support_set", MEASURING, &[0, 1, 1 << 59, (1 << 60) - 1]),
+    entry("exact_cardinality", MEASURING, &[0, 1, (1 << 60) - 1, 1 << 60]),
+];
+
 /// How many first values of an entry are remembered.
 const REMEMBERED: usize = 5000;
 
@@ -59,6 +87,15 @@ impl Count {
                     self.first_values.extend(values.first());
                 }
             }
+        }
+    }
+
+    fn absorb(&mut self, other: Count) {
+        self.calls += other.calls;
+        self.answered += other.answered;
+        self.first_values.extend(other.first_values);
+        for (number, times) in other.refused {
+            *self.refused.entry(number).or_default() += times;
         }
     }
 
@@ -102,20 +139,49 @@ impl Tally {
         }
     }
 
+    /// Counts a call.
+    pub fn count(&mut self, entry: &'static str, want: &Answer) {
+        self.entries.entry(entry).or_default().add(want);
+    }
+
     /// Counts a call and compares it.
     pub fn verdict(&mut self, entry: &'static str, want: &Answer, got: &Outcome) -> Result<(), String> {
-        self.entries.entry(entry).or_default().add(want);
+        self.count(entry, want);
         compare(want, got).map_err(|what| format!("{entry}: {what}"))
     }
 
-    /// Prints the counts; objects to too few calls, and to an answer or a refusal never seen.
-    pub fn finish(&self, least: u64) {
+    /// Counts another tally's calls as its own.
+    pub fn absorb(&mut self, other: Tally) {
+        for (entry, count) in other.entries {
+            self.entries.entry(entry).or_default().absorb(count);
+        }
+    }
+
+    pub fn calls(&self) -> u64 {
+        self.entries.values().map(|count| count.calls).sum()
+    }
+
+    pub fn refused(&self) -> u64 {
+        self.calls() - self.entries.values().map(|count| count.answered).sum::<u64>()
+    }
+
+    pub fn print(&self) {
         for (entry, count) in &self.entries {
             println!("calls {entry} {} answered {}", count.calls, count.answered);
             for (number, times) in &count.refused {
                 println!("refused {entry} {number} {times}");
             }
         }
+    }
+
+    /// How many entries were called.
+    pub fn entries(&self) -> u64 {
+        self.entries.len() as u64
+    }
+
+    /// Prints the counts; objects to too few calls, and to an answer or a refusal never seen.
+    pub fn finish(&self, least: u64) {
+        self.print();
         if let Err(what) = self.complete(least) {
             panic!("{what}");
         }
@@ -123,12 +189,11 @@ impl Tally {
 
     /// Enough calls were made, and each entry called has shown every kind of answer that it has.
     pub fn complete(&self, least: u64) -> Result<(), String> {
-        let total: u64 = self.entries.values().map(|count| count.calls).sum();
-        if total < least {
-            return Err(format!("{total} calls were made, at least {least} are wanted"));
+        if self.calls() < least {
+            return Err(format!("{} calls were made, at least {least} are wanted", self.calls()));
         }
         for (name, count) in &self.entries {
-            let entry = ENTRIES.iter().find(|entry| entry.name == *name).ok_or(format!("{name} is no entry"))?;
+            let entry = ENTRIES.iter().chain(&OPERATORS).find(|entry| entry.name == *name).ok_or(format!("{name} is no entry"))?;
             count.complete(entry).map_err(|what| format!("{name} {what}"))?;
         }
         Ok(())

@@ -1,8 +1,8 @@
 use native.Mathlib.Omega.{arith}
 use lib.ListN.{length-set}
 use borrow.Author.Needs.{needs}
-use Rattle.pool.proofs.put_node.Statement.{statement}
-use Rattle.pool.proofs.put_node.Tie as tie
+use Rattle.table.proofs.put_node.Statement.{statement}
+use Rattle.table.proofs.put_node.Tie as tie
 
 mul-at : tie.Need-mul-at
 mul-at c = search needs

@@ -1,0 +1,2 @@
+pub mod Unary
+pub mod Marked
