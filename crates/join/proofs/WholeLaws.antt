@@ -22,7 +22,7 @@ use Rattle.making.specs.Made.{Leaves}
 use Rattle.pool.specs.declared.Noted.{Noted}
 use Rattle.pool.specs.declared.Noted.the-variants.{Node as Got, Full}
 use Rattle.join.specs.declared.Job.{Job}
-use Rattle.join.specs.Task.{Operand, Task, treeBy, pairOf, pairTree}
+use Rattle.join.specs.Task.{Operand, Task, opOf, treeBy, pairOf, pairTree}
 use Rattle.join.specs.Memo.{ways, slotOf, Remembers}
 use Rattle.join.specs.Joining.{taskOf, joinedBy, Joining, Joined, Joins, Given, cutCount}
 use Rattle.join.proofs.LeafLaws.{count-root}
@@ -38,7 +38,7 @@ root-means n A count e =
     ∙ ap (λ k. cofactor (A .mark) (A .value) (treeOf n (A .table) 0 (k - 1))) (sym e)
 
 -- an empty memory holds nothing
-nothing-held : (m m₁ : List ℕ) (x y r : ℕ) → ways ≤ length m → m₁ ≡ padded (take 0 m) (length m) → length m₁ ≡ length m → Remembers m₁ x y r → ⊥
+pub nothing-held : (m m₁ : List ℕ) (x y r : ℕ) → ways ≤ length m → m₁ ≡ padded (take 0 m) (length m) → length m₁ ≡ length m → Remembers m₁ x y r → ⊥
 unfolding padded
 nothing-held m m₁ x y r h is e w =
     let i : ℕ = ways * slotOf (length m₁ / ways) x y + w .way in
@@ -47,6 +47,14 @@ nothing-held m m₁ x y r h is e w =
     let none : getD m₁ (ways * slotOf (length m₁ / ways) x y + w .way) 0 ≡ 0 =
     ap (λ l. getD l (ways * slotOf (length m₁ / ways) x y + w .way) 0) zeros ∙ getD-replicate {A = ℕ} (length m) (ways * slotOf (length m₁ / ways) x y + w .way) 0 0 within in
     omega (arith, w .entry, none)
+
+-- the roots' operation is the whole join's function
+pub tree-is : (a b : List ℕ) (j : Job) → pairTree (taskOf a b j) 0 (j .left .count - 1) (j .right .count - 1) ≡ joinedBy a b j
+unfolding pairOf
+tree-is a b j =
+    ap₂ (pointwise (opOf (j .op)))
+    (root-means (j .n) (taskOf a b j .left) (j .left .count) (length-nodes (j .left .count) a))
+    (root-means (j .n) (taskOf a b j .right) (j .right .count) (length-nodes (j .right .count) b))
 
 module _ (a b out m : List ℕ) (j : Job) (g : Given a b out m j) where
   abbrev T : Task
@@ -67,12 +75,8 @@ module _ (a b out m : List ℕ) (j : Job) (g : Given a b out m j) where
   ob : Ordered n (nodes (j .right .count) b)
   ob = g .operands .right .ordered
 
-  tree-is : pairTree T 0 x y ≡ joinedBy a b j
-  unfolding pairOf
-  tree-is = ap₂ (pointwise (T .op)) (root-means n (T .left) (j .left .count) (length-nodes (j .left .count) a)) (root-means n (T .right) (j .right .count) (length-nodes (j .right .count) b))
-
   deep : Deep n (joinedBy a b j)
-  deep = subst (Deep n) tree-is (subst (λ k. Deep k (pairTree T 0 x y)) (sub-zero n) (tree-deep T oa ob 0 x y))
+  deep = subst (Deep n) (tree-is a b j) (subst (λ k. Deep k (pairTree T 0 x y)) (sub-zero n) (tree-deep T oa ob 0 x y))
 
   module _ (out₁ m₁ : List ℕ) (n₁ : length out₁ ≡ length out) (e₁ : length m₁ ≡ length m) (starts : nodes 2 out₁ ≡ constants n) (clear : m₁ ≡ padded (take 0 m) (length m)) where
     pub start-ready : Joining a b out₁ m₁ j 0 2 x y
@@ -87,7 +91,7 @@ module _ (a b out m : List ℕ) (j : Job) (g : Given a b out m j) where
     }
 
     whole-walk : walk (nodes 2 out₁) 0 (pairTree T 0 x y) ≡ walk (constants n) 0 (joinedBy a b j)
-    whole-walk = ap₂ (λ s t. walk s 0 t) starts tree-is
+    whole-walk = ap₂ (λ s t. walk s 0 t) starts (tree-is a b j)
 
     module _ (out₂ m₂ : List ℕ) (z : Noted) (joins : Joins a b out₁ out₂ m₂ j 0 2 x y z) where
       pub whole-over : z ≡ Full → Leaves (ltb (j .room) (length (canon n (joinedBy a b j)))) 0 (canon n (joinedBy a b j)) out₂ (Over 0)

@@ -196,7 +196,7 @@ fn cut_at(a: &[u32], b: &[u32], pair: Pair) -> Cut
 }
 
 // What is known of the pair, its set marks passed, or where it is split.
-fn split(a: &[u32], b: &[u32], memo: &[u32], job: Job, pair: Pair) -> Step
+pub fn split(a: &[u32], b: &[u32], memo: &[u32], job: Job, pair: Pair) -> Step
     requires { ⌜ Splitting (now a) (now b) (now memo) job (pair .left .0) (pair .right .0) ⌝ }
     ensures { λ r. ⌜ Splits (now (a .entry)) (now (b .entry)) (now (memo .entry)) job (pair .left .0) (pair .right .0) r ⌝ }
 {
@@ -209,7 +209,7 @@ fn split(a: &[u32], b: &[u32], memo: &[u32], job: Job, pair: Pair) -> Step
     Step::Fork(cut_at(a, b, Pair { left, right }))
 }
 
-fn known_of(step: Step) -> BddPointer
+pub fn known_of(step: Step) -> BddPointer
     ensures { λ r. ⌜ r ≡ knownIn step ⌝ }
 {
     match step {

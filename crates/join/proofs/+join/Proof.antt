@@ -28,17 +28,32 @@ abbrev told : ℕ → join-lts.Claims
 told t = (split-reads.Asked, split-reads.Learnt, known-of-reads.Asked, known-of-reads.Learnt, below t, join.Post, settle-reads.Asked, settle-reads.Learnt)
 
 module _ (t : ℕ) where
+  -- from the answer of the high pair back to that of the low pair, to the split, to the start
+  abbrev low-of : join-lts.After-known-told3 (told t) (at t) join.Post → join-lts.After-known-told2 (told t) (at t) join.Post
+  low-of c = c .before .before .before .before .before .before .before .before .before .before
+
+  abbrev cut-of : join-lts.After-known-told2 (told t) (at t) join.Post → join-lts.After-known-told (told t) (at t) join.Post
+  cut-of c = c .before .before .before .before .before .before .before .before .before .before .before
+
+  abbrev start-of : join-lts.After-known-told (told t) (at t) join.Post → join-lts.Start (told t) (at t) join.Post
+  start-of c = c .before .before .before .before .before .before .before .before .before
+
   -- the pair is split
-  cut-parted : (c : join-lts.After-known-told (told t) (at t) join.Post) → Parted (taskOf (c .before .before .before .before .before .before .before .before .before .args .a .now) (c .before .before .before .before .before .before .before .before .before .args .b .now) (c .before .before .before .before .before .before .before .before .before .args .job)) (c .before .before .before .before .before .before .before .before .before .args .pair .left .0) (c .before .before .before .before .before .before .before .before .before .args .pair .right .0) (c .before .step .given .0 .0)
-  cut-parted c = step-parted _ _ _ _ _ _ _ _ _ (c .before .before .before .before .before .before .before .before .before .pre .1) _ (c .before .before .before .split .ensures) _ (c .before .step .given .1)
+  cut-parted : (c : join-lts.After-known-told (told t) (at t) join.Post)
+      → Parted (taskOf (start-of c .args .a .now) (start-of c .args .b .now) (start-of c .args .job)) (start-of c .args .pair .left .0) (start-of c .args .pair .right .0) (c .before .step .given .0 .0)
+  cut-parted c = step-parted _ _ _ _ _ _ _ _ _ (start-of c .pre .1) _ (c .before .before .before .split .ensures) _ (c .before .step .given .1)
 
   -- the low pair's answer
-  low-is : (c : join-lts.After-known-told2 (told t) (at t) join.Post) → Joined (c .before .before .before .before .before .before .before .before .before .before .before .before .before .before .before .before .before .before .before .before .args .a .now) (c .before .before .before .before .before .before .before .before .before .before .before .before .before .before .before .before .before .before .before .before .args .b .now) (c .before .before .before .before .before .before .before .before .before .before .before .before .before .before .before .before .before .before .before .before .args .out .now) (c .before .before .before .before .before .before .before .join .last .1 .1 .0) (c .before .before .before .before .before .before .before .join .last .1 .1 .1 .0) (c .before .before .before .before .before .before .before .before .before .before .before .before .before .before .before .before .before .before .before .before .args .job) (c .before .before .before .before .before .before .before .before .before .before .before .before .step .given .0 .0 .level .0 + 1) (c .before .before .before .before .before .before .before .before .before .before .before .before .before .before .before .before .before .before .before .before .args .count) (c .before .before .before .before .before .before .before .before .before .before .before .before .step .given .0 .0 .low .left .0) (c .before .before .before .before .before .before .before .before .before .before .before .before .step .given .0 .0 .low .right .0) (c .before .low .given .0 .0 .0) (c .before .low .given .0 .1 .0)
-  low-is c = side-got _ _ _ _ _ _ _ _ _ (c .before .before .before .before .before .before .before .before .before .before .before .before .before .before .before .before .before .before .before .before .pre .1) _ (cut-parted (c .before .before .before .before .before .before .before .before .before .before .before)) _ _ _ _ _ _ (c .before .before .before .before .before .before .before .join .ensures) _ _ (c .before .low .given .1)
+  low-is : (c : join-lts.After-known-told2 (told t) (at t) join.Post) → let k = cut-of c in let g = start-of k .args in
+      Joined (g .a .now) (g .b .now) (g .out .now) (c .before .before .before .before .before .before .before .join .last .1 .1 .0) (c .before .before .before .before .before .before .before .join .last .1 .1 .1 .0) (g .job) (k .before .step .given .0 .0 .level .0 + 1) (g .count)
+      (k .before .step .given .0 .0 .low .left .0) (k .before .step .given .0 .0 .low .right .0) (c .before .low .given .0 .0 .0) (c .before .low .given .0 .1 .0)
+  low-is c = let k = cut-of c in side-got _ _ _ _ _ _ _ _ _ (start-of k .pre .1) _ (cut-parted k) _ _ _ _ _ _ (c .before .before .before .before .before .before .before .join .ensures) _ _ (c .before .low .given .1)
 
   -- the high pair's answer
-  high-is : (c : join-lts.After-known-told3 (told t) (at t) join.Post) → Joined (c .before .before .before .before .before .before .before .before .before .before .before .before .before .before .before .before .before .before .before .before .before .before .before .before .before .before .before .before .before .before .args .a .now) (c .before .before .before .before .before .before .before .before .before .before .before .before .before .before .before .before .before .before .before .before .before .before .before .before .before .before .before .before .before .before .args .b .now) (c .before .before .before .before .before .before .before .before .before .before .before .before .before .before .before .before .before .join .last .1 .1 .0) (c .before .before .before .before .before .before .before .join2 .last .1 .1 .0) (c .before .before .before .before .before .before .before .join2 .last .1 .1 .1 .0) (c .before .before .before .before .before .before .before .before .before .before .before .before .before .before .before .before .before .before .before .before .before .before .before .before .before .before .before .before .before .before .args .job) (c .before .before .before .before .before .before .before .before .before .before .before .before .before .before .before .before .before .before .before .before .before .before .step .given .0 .0 .level .0 + 1) (c .before .before .before .before .before .before .before .before .before .before .before .low .given .0 .1 .0) (c .before .before .before .before .before .before .before .before .before .before .before .before .before .before .before .before .before .before .before .before .before .before .step .given .0 .0 .high .left .0) (c .before .before .before .before .before .before .before .before .before .before .before .before .before .before .before .before .before .before .before .before .before .before .step .given .0 .0 .high .right .0) (c .before .high .given .0 .0 .0) (c .before .high .given .0 .1 .0)
-  high-is c = side-got _ _ _ _ _ _ _ _ _ (c .before .before .before .before .before .before .before .before .before .before .before .before .before .before .before .before .before .before .before .before .before .before .before .before .before .before .before .before .before .before .pre .1) _ (cut-parted (c .before .before .before .before .before .before .before .before .before .before .before .before .before .before .before .before .before .before .before .before .before)) _ _ _ _ _ _ (c .before .before .before .before .before .before .before .join2 .ensures) _ _ (c .before .high .given .1)
+  high-is : (c : join-lts.After-known-told3 (told t) (at t) join.Post) → let l = low-of c in let k = cut-of l in let g = start-of k .args in
+      Joined (g .a .now) (g .b .now) (l .before .before .before .before .before .before .before .join .last .1 .1 .0) (c .before .before .before .before .before .before .before .join2 .last .1 .1 .0) (c .before .before .before .before .before .before .before .join2 .last .1 .1 .1 .0) (g .job) (k .before .step .given .0 .0 .level .0 + 1) (l .before .low .given .0 .1 .0)
+      (k .before .step .given .0 .0 .high .left .0) (k .before .step .given .0 .0 .high .right .0) (c .before .high .given .0 .0 .0) (c .before .high .given .0 .1 .0)
+  high-is c = let k = cut-of (low-of c) in side-got _ _ _ _ _ _ _ _ _ (start-of k .pre .1) _ (cut-parted k) _ _ _ _ _ _ (c .before .before .before .before .before .before .before .join2 .ensures) _ _ (c .before .high .given .1)
 
   split-requires : join-lts.Need-split-requires (told t) (at t) join.Post
   split-requires c κs = splitting _ _ _ _ _ _ _ _ _ (c .before .before .before .before .before .pre .1)
@@ -59,10 +74,12 @@ module _ (t : ℕ) where
   returns c = step-known _ _ _ _ _ _ _ _ _ (c .before .before .before .before .before .before .before .before .before .pre .1) _ (c .before .before .before .split .ensures) _ (c .before .enum-told .given .1) _ (c .known-of .ensures)
 
   add-t21 : join-lts.Need-add-t21 (told t) (at t) join.Post
-  add-t21 c = record { fits = omega (arith, next-fits _ _ _ _ _ _ _ _ _ (c .before .before .before .before .before .before .before .before .before .before .pre .1) _ (cut-parted (c .before)), c .before .before .before .before .before .before .before .before .before .before .pre .1 .operands .left .marks) }
+  add-t21 c =
+      let k = c .before in record { fits = omega (arith, next-fits _ _ _ _ _ _ _ _ _ (start-of k .pre .1) _ (cut-parted k), start-of k .pre .1 .operands .left .marks) }
 
   join-requires : join-lts.Need-join-requires (told t) (at t) join.Post
-  join-requires c κs = (omega (arith, c .before .before .before .before .before .before .before .before .before .before .before .before .pre .0, deeper _ _ _ _ _ _ _ _ _ (c .before .before .before .before .before .before .before .before .before .before .before .before .pre .1) _ (cut-parted (c .before .before .before))), low-ready _ _ _ _ _ _ _ _ _ (c .before .before .before .before .before .before .before .before .before .before .before .before .pre .1) _ (cut-parted (c .before .before .before)))
+  join-requires c κs =
+      let k = c .before .before .before in (omega (arith, start-of k .pre .0, deeper _ _ _ _ _ _ _ _ _ (start-of k .pre .1) _ (cut-parted k)), low-ready _ _ _ _ _ _ _ _ _ (start-of k .pre .1) _ (cut-parted k))
 
   enum-known-low : join-lts.Need-enum-known-low (told t) (at t) join.Post
   enum-known-low c = search needs
@@ -77,10 +94,12 @@ module _ (t : ℕ) where
   same-length-3 c = search needs
 
   returns-2 : join-lts.Need-returns-2 (told t) (at t) join.Post
-  returns-2 c = low-full _ _ _ _ _ _ _ _ _ (c .before .before .before .before .before .before .before .before .before .before .before .before .before .before .before .before .before .before .before .pre .1) _ (cut-parted (c .before .before .before .before .before .before .before .before .before .before)) (side-full _ _ _ _ _ _ _ _ _ (c .before .before .before .before .before .before .before .before .before .before .before .before .before .before .before .before .before .before .before .pre .1) _ (cut-parted (c .before .before .before .before .before .before .before .before .before .before)) _ _ _ _ _ _ (c .before .before .before .before .before .before .join .ensures) (c .enum-told2 .given .1))
+  returns-2 c =
+      let k = c .before .before .before .before .before .before .before .before .before .before in low-full _ _ _ _ _ _ _ _ _ (start-of k .pre .1) _ (cut-parted k) (side-full _ _ _ _ _ _ _ _ _ (start-of k .pre .1) _ (cut-parted k) _ _ _ _ _ _ (c .before .before .before .before .before .before .join .ensures) (c .enum-told2 .given .1))
 
   join-requires-2 : join-lts.Need-join-requires-2 (told t) (at t) join.Post
-  join-requires-2 c κs = (omega (arith, c .before .before .before .before .before .before .before .before .before .before .before .before .before .before .before .before .before .before .before .before .before .before .pre .0, deeper _ _ _ _ _ _ _ _ _ (c .before .before .before .before .before .before .before .before .before .before .before .before .before .before .before .before .before .before .before .before .before .before .pre .1) _ (cut-parted (c .before .before .before .before .before .before .before .before .before .before .before .before .before))), high-ready _ _ _ _ _ _ _ _ _ (c .before .before .before .before .before .before .before .before .before .before .before .before .before .before .before .before .before .before .before .before .before .before .pre .1) _ (cut-parted (c .before .before .before .before .before .before .before .before .before .before .before .before .before)) _ _ _ _ (c .before .before .before .before .before .before .before .before .before .join .kept .1 .1 .0) (c .before .before .before .before .before .before .before .before .before .join .kept .1 .1 .1 .0) (low-is (c .before .before)))
+  join-requires-2 c κs =
+      let l = c .before .before in let k = cut-of l in (omega (arith, start-of k .pre .0, deeper _ _ _ _ _ _ _ _ _ (start-of k .pre .1) _ (cut-parted k)), high-ready _ _ _ _ _ _ _ _ _ (start-of k .pre .1) _ (cut-parted k) _ _ _ _ (l .before .before .before .before .before .before .before .join .kept .1 .1 .0) (l .before .before .before .before .before .before .before .join .kept .1 .1 .1 .0) (low-is l))
 
   enum-known-high : join-lts.Need-enum-known-high (told t) (at t) join.Post
   enum-known-high c = search needs
@@ -95,10 +114,12 @@ module _ (t : ℕ) where
   same-length-5 c = search needs
 
   returns-3 : join-lts.Need-returns-3 (told t) (at t) join.Post
-  returns-3 c = high-full _ _ _ _ _ _ _ _ _ (c .before .before .before .before .before .before .before .before .before .before .before .before .before .before .before .before .before .before .before .before .before .before .before .before .before .before .before .before .before .pre .1) _ (cut-parted (c .before .before .before .before .before .before .before .before .before .before .before .before .before .before .before .before .before .before .before .before)) _ _ _ _ (c .before .before .before .before .before .before .before .before .before .before .before .before .before .before .before .before .join .kept .1 .1 .0) (c .before .before .before .before .before .before .before .before .before .before .before .before .before .before .before .before .join .kept .1 .1 .1 .0) (low-is (c .before .before .before .before .before .before .before .before .before)) (side-full _ _ _ _ _ _ _ _ _ (c .before .before .before .before .before .before .before .before .before .before .before .before .before .before .before .before .before .before .before .before .before .before .before .before .before .before .before .before .before .pre .1) _ (cut-parted (c .before .before .before .before .before .before .before .before .before .before .before .before .before .before .before .before .before .before .before .before)) _ _ _ _ _ _ (c .before .before .before .before .before .before .join2 .ensures) (c .enum-told3 .given .1))
+  returns-3 c =
+      let l = c .before .before .before .before .before .before .before .before .before in let k = cut-of l in high-full _ _ _ _ _ _ _ _ _ (start-of k .pre .1) _ (cut-parted k) _ _ _ _ (l .before .before .before .before .before .before .before .join .kept .1 .1 .0) (l .before .before .before .before .before .before .before .join .kept .1 .1 .1 .0) (low-is l) (side-full _ _ _ _ _ _ _ _ _ (start-of k .pre .1) _ (cut-parted k) _ _ _ _ _ _ (c .before .before .before .before .before .before .join2 .ensures) (c .enum-told3 .given .1))
 
   settle-requires : join-lts.Need-settle-requires (told t) (at t) join.Post
-  settle-requires c κs = settling _ _ _ _ _ _ _ _ _ (c .before .before .before .before .before .before .before .before .before .before .before .before .before .before .before .before .before .before .before .before .before .before .before .before .before .before .before .before .before .before .before .before .pre .1) _ (cut-parted (c .before .before .before .before .before .before .before .before .before .before .before .before .before .before .before .before .before .before .before .before .before .before .before)) _ _ _ _ (c .before .before .before .before .before .before .before .before .before .before .before .before .before .before .before .before .before .before .before .join .kept .1 .1 .0) (c .before .before .before .before .before .before .before .before .before .before .before .before .before .before .before .before .before .before .before .join .kept .1 .1 .1 .0) (low-is (c .before .before .before .before .before .before .before .before .before .before .before .before)) _ _ _ _ (c .before .before .before .before .before .before .before .before .before .join2 .kept .1 .1 .0) (c .before .before .before .before .before .before .before .before .before .join2 .kept .1 .1 .1 .0) (high-is (c .before .before))
+  settle-requires c κs =
+      let h = c .before .before in let l = low-of h in let k = cut-of l in settling _ _ _ _ _ _ _ _ _ (start-of k .pre .1) _ (cut-parted k) _ _ _ _ (l .before .before .before .before .before .before .before .join .kept .1 .1 .0) (l .before .before .before .before .before .before .before .join .kept .1 .1 .1 .0) (low-is l) _ _ _ _ (h .before .before .before .before .before .before .before .join2 .kept .1 .1 .0) (h .before .before .before .before .before .before .before .join2 .kept .1 .1 .1 .0) (high-is h)
 
   same-length-6 : join-lts.Need-same-length-6 (told t) (at t) join.Post
   same-length-6 c = search needs
@@ -107,7 +128,9 @@ module _ (t : ℕ) where
   same-length-7 c = search needs
 
   returns-4 : join-lts.Need-returns-4 (told t) (at t) join.Post
-  returns-4 c = finish _ _ _ _ _ _ _ _ _ (c .before .before .before .before .before .before .before .before .before .before .before .before .before .before .before .before .before .before .before .before .before .before .before .before .before .before .before .before .before .before .before .before .before .before .before .before .before .pre .1) _ (cut-parted (c .before .before .before .before .before .before .before .before .before .before .before .before .before .before .before .before .before .before .before .before .before .before .before .before .before .before .before .before)) _ _ _ _ (c .before .before .before .before .before .before .before .before .before .before .before .before .before .before .before .before .before .before .before .before .before .before .before .before .join .kept .1 .1 .0) (c .before .before .before .before .before .before .before .before .before .before .before .before .before .before .before .before .before .before .before .before .before .before .before .before .join .kept .1 .1 .1 .0) (low-is (c .before .before .before .before .before .before .before .before .before .before .before .before .before .before .before .before .before)) _ _ _ _ (c .before .before .before .before .before .before .before .before .before .before .before .before .before .before .join2 .kept .1 .1 .0) (c .before .before .before .before .before .before .before .before .before .before .before .before .before .before .join2 .kept .1 .1 .1 .0) (high-is (c .before .before .before .before .before .before .before)) _ _ (c .before .before .before .before .settle .result) (c .before .before .before .before .settle .ensures)
+  returns-4 c =
+      let h = c .before .before .before .before .before .before .before in let l = low-of h in let k = cut-of l in
+      finish _ _ _ _ _ _ _ _ _ (start-of k .pre .1) _ (cut-parted k) _ _ _ _ (l .before .before .before .before .before .before .before .join .kept .1 .1 .0) (l .before .before .before .before .before .before .before .join .kept .1 .1 .1 .0) (low-is l) _ _ _ _ (h .before .before .before .before .before .before .before .join2 .kept .1 .1 .0) (h .before .before .before .before .before .before .before .join2 .kept .1 .1 .1 .0) (high-is h) _ _ (c .before .before .before .before .settle .result) (c .before .before .before .before .settle .ensures)
 
 pub +join-spec : {M : Type 1} → statement M
 +join-spec = close μ (λ t. join-lts.spec (told t) (at t) join.Post (split-requires t) (enum-known-step t) (enum-told t) (known-of-requires t) (same-length t) (returns t) (add-t21 t) (join-requires t) (enum-known-low t) (enum-told-2 t) (same-length-2 t) (same-length-3 t) (returns-2 t) (join-requires-2 t) (enum-known-high t) (enum-told-3 t) (same-length-4 t) (same-length-5 t) (returns-3 t) (settle-requires t) (same-length-6 t) (same-length-7 t) (returns-4 t))
