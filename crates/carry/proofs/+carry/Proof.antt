@@ -1,4 +1,5 @@
 use native.Mathlib.Omega.{arith}
+use Rattle.carry.specs.declared.Cut.{Cut}
 use Rattle.carry.specs.Carry.{Parts, Carried}
 use Rattle.carry.proofs.LeafLaws.{split-parts, split-ends, carries-node, carries-full}
 use Rattle.carry.proofs.CarryLaws.{carry-done, x-lt, y-lt, carrying-lo, full-lo, carrying-hi, full-hi, noding, slot-in, done}
@@ -37,8 +38,9 @@ module _ (t : ℕ) where
   abbrev Both : Type 0
   Both = carry-lts.After-known-told4 (told t) (at t) carry.Post
 
-  parts : (c : Parted) → Parts (c .before .before .before .before .before .before .before .before .args .bdd .now) (c .before .before .before .before .before .before .before .before .args .way) (c .before .before .before .before .before .before .before .before .args .a .0) (c .before .step2 .given .0 .0)
-  parts c = split-parts (c .before .before .before .before .before .before .before .before .args .bdd .now) (c .before .before .before .before .before .before .before .before .args .memo .now) (c .before .before .before .before .before .before .before .before .args .way) (c .before .before .before .before .before .before .before .before .args .a .0) _ _ (c .before .step2 .given .1) (c .before .before .before .split .ensures)
+  -- the way back to earlier places
+  abbrev start : Parted → carry-lts.Start (told t) (at t) carry.Post
+  start c = c .before .before .before .before .before .before .before .before
 
   abbrev first : Lowered → Parted
   first c = c .before .before .before .before .before .before .before .before .before .before
@@ -46,15 +48,32 @@ module _ (t : ℕ) where
   abbrev second : Both → Lowered
   second c = c .before .before .before .before .before .before .before .before .before .before
 
+  abbrev lower : Lowered → carry-lts.After-carry (told t) (at t) carry.Post
+  lower c = c .before .before .before .before .before .before .before
+
+  abbrev higher : Both → carry-lts.After-carry2 (told t) (at t) carry.Post
+  higher c = c .before .before .before .before .before .before .before
+
+  abbrev cut : Parted → Cut
+  cut c = c .before .step2 .given .0 .0
+
+  parts : (c : Parted) → Parts (start c .args .bdd .now) (start c .args .way) (start c .args .a .0) (cut c)
+  parts c = let x = start c .args in split-parts (x .bdd .now) (x .memo .now) (x .way) (x .a .0) _ _ (c .before .step2 .given .1) (c .before .before .before .split .ensures)
+
+  -- what the low child's call gave, and the high child's
   low-is : (c : Lowered)
-      → Carried (c .before .before .before .before .before .before .before .before .before .before .before .before .before .before .before .before .before .before .args .bdd .now) (c .before .before .before .before .before .before .before .before .before .before .before .before .before .before .before .before .before .before .args .out .now) (c .before .before .before .before .before .before .before .carry .last .1 .0) (c .before .before .before .before .before .before .before .carry .last .1 .1 .0) (c .before .before .before .before .before .before .before .before .before .before .before .before .before .before .before .before .before .before .args .way) (c .before .before .before .before .before .before .before .before .before .before .before .before .before .before .before .before .before .before .args .count) (c .before .before .before .before .before .before .before .before .before .before .before .before .before .before .before .before .before .before .args .made) (c .before .before .before .before .before .before .before .before .before .before .before .step2 .given .0 .0 .low .0) (c .before .lo .given .0 .0 .0) (c .before .lo .given .0 .1 .0)
+      → Carried (start (first c) .args .bdd .now) (start (first c) .args .out .now) (lower c .carry .last .1 .0) (lower c .carry .last .1 .1 .0) (start (first c) .args .way) (start (first c) .args .count) (start (first c) .args .made)
+      (cut (first c) .low .0) (c .before .lo .given .0 .0 .0) (c .before .lo .given .0 .1 .0)
   low-is c =
-      carries-node (c .before .before .before .before .before .before .before .before .before .before .before .before .before .before .before .before .before .before .args .bdd .now) (c .before .before .before .before .before .before .before .before .before .before .before .before .before .before .before .before .before .before .args .out .now) (c .before .before .before .before .before .before .before .carry .last .1 .0) (c .before .before .before .before .before .before .before .carry .last .1 .1 .0) (c .before .before .before .before .before .before .before .before .before .before .before .before .before .before .before .before .before .before .args .way) (c .before .before .before .before .before .before .before .before .before .before .before .before .before .before .before .before .before .before .args .count) (c .before .before .before .before .before .before .before .before .before .before .before .before .before .before .before .before .before .before .args .made) (c .before .before .before .before .before .before .before .before .before .before .before .step2 .given .0 .0 .low .0) _ (c .before .before .before .before .before .before .before .carry .ensures) _ _ (c .before .lo .given .1)
+      let x = start (first c) .args in
+      carries-node (x .bdd .now) (x .out .now) (lower c .carry .last .1 .0) (lower c .carry .last .1 .1 .0) (x .way) (x .count) (x .made) (cut (first c) .low .0) _ (lower c .carry .ensures) _ _ (c .before .lo .given .1)
 
   high-is : (c : Both)
-      → Carried (c .before .before .before .before .before .before .before .before .before .before .before .before .before .before .before .before .before .before .before .before .before .before .before .before .before .before .before .before .args .bdd .now) (c .before .before .before .before .before .before .before .before .before .before .before .before .before .before .before .before .before .carry .last .1 .0) (c .before .before .before .before .before .before .before .carry2 .last .1 .0) (c .before .before .before .before .before .before .before .carry2 .last .1 .1 .0) (c .before .before .before .before .before .before .before .before .before .before .before .before .before .before .before .before .before .before .before .before .before .before .before .before .before .before .before .before .args .way) (c .before .before .before .before .before .before .before .before .before .before .before .before .before .before .before .before .before .before .before .before .before .before .before .before .before .before .before .before .args .count) (c .before .before .before .before .before .before .before .before .before .before .before .lo .given .0 .1 .0) (c .before .before .before .before .before .before .before .before .before .before .before .before .before .before .before .before .before .before .before .before .before .step2 .given .0 .0 .high .0) (c .before .hi .given .0 .0 .0) (c .before .hi .given .0 .1 .0)
+      → Carried (start (first (second c)) .args .bdd .now) (lower (second c) .carry .last .1 .0) (higher c .carry2 .last .1 .0) (higher c .carry2 .last .1 .1 .0) (start (first (second c)) .args .way) (start (first (second c)) .args .count)
+      (second c .before .lo .given .0 .1 .0) (cut (first (second c)) .high .0) (c .before .hi .given .0 .0 .0) (c .before .hi .given .0 .1 .0)
   high-is c =
-      carries-node (c .before .before .before .before .before .before .before .before .before .before .before .before .before .before .before .before .before .before .before .before .before .before .before .before .before .before .before .before .args .bdd .now) (c .before .before .before .before .before .before .before .before .before .before .before .before .before .before .before .before .before .carry .last .1 .0) (c .before .before .before .before .before .before .before .carry2 .last .1 .0) (c .before .before .before .before .before .before .before .carry2 .last .1 .1 .0) (c .before .before .before .before .before .before .before .before .before .before .before .before .before .before .before .before .before .before .before .before .before .before .before .before .before .before .before .before .args .way) (c .before .before .before .before .before .before .before .before .before .before .before .before .before .before .before .before .before .before .before .before .before .before .before .before .before .before .before .before .args .count) (c .before .before .before .before .before .before .before .before .before .before .before .lo .given .0 .1 .0) (c .before .before .before .before .before .before .before .before .before .before .before .before .before .before .before .before .before .before .before .before .before .step2 .given .0 .0 .high .0) _ (c .before .before .before .before .before .before .before .carry2 .ensures) _ _ (c .before .hi .given .1)
+      let x = start (first (second c)) .args in
+      carries-node (x .bdd .now) (lower (second c) .carry .last .1 .0) (higher c .carry2 .last .1 .0) (higher c .carry2 .last .1 .1 .0) (x .way) (x .count) (second c .before .lo .given .0 .1 .0) (cut (first (second c)) .high .0) _ (higher c .carry2 .ensures) _ _ (c .before .hi .given .1)
 
   split-requires : carry-lts.Need-split-requires (told t) (at t) carry.Post
   split-requires c κs = c .before .before .before .before .pre .1 .reading
@@ -67,7 +86,8 @@ module _ (t : ℕ) where
 
   carry-requires : carry-lts.Need-carry-requires (told t) (at t) carry.Post
   carry-requires c κs =
-      (omega (arith, c .before .before .before .before .before .before .before .before .before .before .pre .0, x-lt _ _ _ _ _ _ _ (c .before .before .before .before .before .before .before .before .before .before .pre .1) _ (parts (c .before .before))), carrying-lo _ _ _ _ _ _ _ (c .before .before .before .before .before .before .before .before .before .before .pre .1) _ (parts (c .before .before)))
+      let d : Parted = c .before .before in
+      (omega (arith, start d .pre .0, x-lt _ _ _ _ _ _ _ (start d .pre .1) _ (parts d)), carrying-lo _ _ _ _ _ _ _ (start d .pre .1) _ (parts d))
 
   enum-known-lo : carry-lts.Need-enum-known-lo (told t) (at t) carry.Post
   enum-known-lo c = search needs
@@ -83,12 +103,16 @@ module _ (t : ℕ) where
 
   returns : carry-lts.Need-returns (told t) (at t) carry.Post
   returns c =
-      full-lo _ _ _ _ _ _ _ (c .before .before .before .before .before .before .before .before .before .before .before .before .before .before .before .before .before .pre .1) _ (parts (c .before .before .before .before .before .before .before .before .before))
-      (carries-full (c .before .before .before .before .before .before .before .before .before .before .before .before .before .before .before .before .before .args .bdd .now) (c .before .before .before .before .before .before .before .before .before .before .before .before .before .before .before .before .before .args .out .now) (c .before .before .before .before .before .before .carry .last .1 .0) (c .before .before .before .before .before .before .carry .last .1 .1 .0) (c .before .before .before .before .before .before .before .before .before .before .before .before .before .before .before .before .before .args .way) (c .before .before .before .before .before .before .before .before .before .before .before .before .before .before .before .before .before .args .count) (c .before .before .before .before .before .before .before .before .before .before .before .before .before .before .before .before .before .args .made) (c .before .before .before .before .before .before .before .before .before .before .step2 .given .0 .0 .low .0) _ (c .before .before .before .before .before .before .carry .ensures) (c .enum-told .given .1))
+      let d : Parted = c .before .before .before .before .before .before .before .before .before in
+      let x = start d .args in
+      full-lo _ _ _ _ _ _ _ (start d .pre .1) _ (parts d)
+      (carries-full (x .bdd .now) (x .out .now) (c .before .before .before .before .before .before .carry .last .1 .0) (c .before .before .before .before .before .before .carry .last .1 .1 .0) (x .way) (x .count) (x .made) (cut d .low .0) _ (c .before .before .before .before .before .before .carry .ensures) (c .enum-told .given .1))
 
   carry-requires-2 : carry-lts.Need-carry-requires-2 (told t) (at t) carry.Post
   carry-requires-2 c κs =
-      (omega (arith, c .before .before .before .before .before .before .before .before .before .before .before .before .before .before .before .before .before .before .before .before .pre .0, y-lt _ _ _ _ _ _ _ (c .before .before .before .before .before .before .before .before .before .before .before .before .before .before .before .before .before .before .before .before .pre .1) _ (parts (first (c .before .before)))), carrying-hi _ _ _ _ _ _ _ (c .before .before .before .before .before .before .before .before .before .before .before .before .before .before .before .before .before .before .before .before .pre .1) _ (parts (first (c .before .before))) _ _ _ _ (c .before .before .before .before .before .before .before .before .before .carry .kept .1 .0) (c .before .before .before .before .before .before .before .before .before .carry .kept .1 .1 .0) (low-is (c .before .before)))
+      let d : Lowered = c .before .before in
+      let s = start (first d) in
+      (omega (arith, s .pre .0, y-lt _ _ _ _ _ _ _ (s .pre .1) _ (parts (first d))), carrying-hi _ _ _ _ _ _ _ (s .pre .1) _ (parts (first d)) _ _ _ _ (lower d .carry .kept .1 .0) (lower d .carry .kept .1 .1 .0) (low-is d))
 
   enum-known-hi : carry-lts.Need-enum-known-hi (told t) (at t) carry.Post
   enum-known-hi c = search needs
@@ -104,14 +128,17 @@ module _ (t : ℕ) where
 
   returns-2 : carry-lts.Need-returns-2 (told t) (at t) carry.Post
   returns-2 c =
-      full-hi _ _ _ _ _ _ _ (c .before .before .before .before .before .before .before .before .before .before .before .before .before .before .before .before .before .before .before .before .before .before .before .before .before .before .before .pre .1) _ (parts (first (c .before .before .before .before .before .before .before .before .before))) _ _ _ _ (c .before .before .before .before .before .before .before .before .before .before .before .before .before .before .before .before .carry .kept .1 .0) (c .before .before .before .before .before .before .before .before .before .before .before .before .before .before .before .before .carry .kept .1 .1 .0) (low-is (c .before .before .before .before .before .before .before .before .before))
-      (carries-full (c .before .before .before .before .before .before .before .before .before .before .before .before .before .before .before .before .before .before .before .before .before .before .before .before .before .before .before .args .bdd .now) (c .before .before .before .before .before .before .before .before .before .before .before .before .before .before .before .before .carry .last .1 .0) (c .before .before .before .before .before .before .carry2 .last .1 .0) (c .before .before .before .before .before .before .carry2 .last .1 .1 .0) (c .before .before .before .before .before .before .before .before .before .before .before .before .before .before .before .before .before .before .before .before .before .before .before .before .before .before .before .args .way) (c .before .before .before .before .before .before .before .before .before .before .before .before .before .before .before .before .before .before .before .before .before .before .before .before .before .before .before .args .count) (c .before .before .before .before .before .before .before .before .before .before .lo .given .0 .1 .0) (c .before .before .before .before .before .before .before .before .before .before .before .before .before .before .before .before .before .before .before .before .step2 .given .0 .0 .high .0) _ (c .before .before .before .before .before .before .carry2 .ensures) (c .enum-told2 .given .1))
+      let d : Lowered = c .before .before .before .before .before .before .before .before .before in
+      let x = start (first d) .args in
+      full-hi _ _ _ _ _ _ _ (start (first d) .pre .1) _ (parts (first d)) _ _ _ _ (lower d .carry .kept .1 .0) (lower d .carry .kept .1 .1 .0) (low-is d)
+      (carries-full (x .bdd .now) (lower d .carry .last .1 .0) (c .before .before .before .before .before .before .carry2 .last .1 .0) (c .before .before .before .before .before .before .carry2 .last .1 .1 .0) (x .way) (x .count) (d .before .lo .given .0 .1 .0) (cut (first d) .high .0) _ (c .before .before .before .before .before .before .carry2 .ensures) (c .enum-told2 .given .1))
 
   finish-requires : carry-lts.Need-finish-requires (told t) (at t) carry.Post
-  finish-requires c κs = (
-    noding _ _ _ _ _ _ _ (c .before .before .before .before .before .before .before .before .before .before .before .before .before .before .before .before .before .before .before .before .before .before .before .before .before .before .before .before .before .before .pre .1) _ (parts (first (second (c .before .before)))) _ _ _ _ (c .before .before .before .before .before .before .before .before .before .before .before .before .before .before .before .before .before .before .before .carry .kept .1 .0) (c .before .before .before .before .before .before .before .before .before .before .before .before .before .before .before .before .before .before .before .carry .kept .1 .1 .0) (low-is (second (c .before .before))) _ _ _ _ (c .before .before .before .before .before .before .before .before .before .carry2 .kept .1 .0) (c .before .before .before .before .before .before .before .before .before .carry2 .kept .1 .1 .0) (high-is (c .before .before)),
-    slot-in _ _ _ _ _ _ _ (c .before .before .before .before .before .before .before .before .before .before .before .before .before .before .before .before .before .before .before .before .before .before .before .before .before .before .before .before .before .before .pre .1) _ (parts (first (second (c .before .before)))) _ _ _ _ (c .before .before .before .before .before .before .before .before .before .before .before .before .before .before .before .before .before .before .before .carry .kept .1 .0) (c .before .before .before .before .before .before .before .before .before .before .before .before .before .before .before .before .before .before .before .carry .kept .1 .1 .0) (low-is (second (c .before .before))) _ _ _ _ (c .before .before .before .before .before .before .before .before .before .carry2 .kept .1 .0) (c .before .before .before .before .before .before .before .before .before .carry2 .kept .1 .1 .0) (high-is (c .before .before)),
-  )
+  finish-requires c κs =
+      let d : Both = c .before .before in (
+        noding _ _ _ _ _ _ _ (start (first (second d)) .pre .1) _ (parts (first (second d))) _ _ _ _ (lower (second d) .carry .kept .1 .0) (lower (second d) .carry .kept .1 .1 .0) (low-is (second d)) _ _ _ _ (higher d .carry2 .kept .1 .0) (higher d .carry2 .kept .1 .1 .0) (high-is d),
+        slot-in _ _ _ _ _ _ _ (start (first (second d)) .pre .1) _ (parts (first (second d))) _ _ _ _ (lower (second d) .carry .kept .1 .0) (lower (second d) .carry .kept .1 .1 .0) (low-is (second d)) _ _ _ _ (higher d .carry2 .kept .1 .0) (higher d .carry2 .kept .1 .1 .0) (high-is d),
+      )
 
   same-length-5 : carry-lts.Need-same-length-5 (told t) (at t) carry.Post
   same-length-5 c = search needs
@@ -128,8 +155,10 @@ module _ (t : ℕ) where
 
   returns-4 : carry-lts.Need-returns-4 (told t) (at t) carry.Post
   returns-4 c =
-      done _ _ _ _ _ _ _ (c .before .before .before .before .before .before .before .before .before .before .before .before .before .before .before .before .before .before .before .before .before .before .before .before .before .before .before .before .before .before .before .before .before .before .before .pre .1) _ (parts (first (second (c .before .before .before .before .before .before .before)))) _ _ _ _ (c .before .before .before .before .before .before .before .before .before .before .before .before .before .before .before .before .before .before .before .before .before .before .before .before .carry .kept .1 .0) (c .before .before .before .before .before .before .before .before .before .before .before .before .before .before .before .before .before .before .before .before .before .before .before .before .carry .kept .1 .1 .0) (low-is (second (c .before .before .before .before .before .before .before))) _ _ _ _ (c .before .before .before .before .before .before .before .before .before .before .before .before .before .before .carry2 .kept .1 .0) (c .before .before .before .before .before .before .before .before .before .before .before .before .before .before .carry2 .kept .1 .1 .0) (high-is (c .before .before .before .before .before .before .before))
-      (c .before .before .before .before .finish .last .0) (c .before .before .before .before .finish .last .1 .0) (c .before .before .before .before .finish .result) (c .before .before .before .before .finish .ensures)
+      let d : Both = c .before .before .before .before .before .before .before in
+      let f = c .before .before .before .before .finish in
+      done _ _ _ _ _ _ _ (start (first (second d)) .pre .1) _ (parts (first (second d))) _ _ _ _ (lower (second d) .carry .kept .1 .0) (lower (second d) .carry .kept .1 .1 .0) (low-is (second d)) _ _ _ _ (higher d .carry2 .kept .1 .0) (higher d .carry2 .kept .1 .1 .0) (high-is d)
+      (f .last .0) (f .last .1 .0) (f .result) (f .ensures)
 
 pub +carry-spec : {M : Type 1} → statement M
 +carry-spec = close μ (λ t. carry-lts.spec (told t) (at t) carry.Post (split-requires t) (enum-known-step t) (enum-known-step-2 t) (carry-requires t) (enum-known-lo t) (enum-told t) (same-length t) (same-length-2 t) (returns t) (carry-requires-2 t) (enum-known-hi t) (enum-told-2 t) (same-length-3 t) (same-length-4 t) (returns-2 t) (finish-requires t) (same-length-5 t) (returns-3 t) (same-length-6 t) (same-length-7 t) (returns-4 t))

@@ -13,7 +13,10 @@ cast-carry : tie.Need-cast-carry
 cast-carry c = search needs
 
 carry-requires : tie.Need-carry-requires
-carry-requires c κs = begins _ _ _ (c .before .before .before .before .before .before .before .before .before .before .before .before .before .args .way) _ _ (c .before .before .before .before .before .before .before .before .before .before .before .before .before .pre) _ _ (c .before .before .before .before .put-constants .kept .0) (c .before .before .before .before .before .before .before .before .zero-u32-from .kept .0) (c .before .before .before .before .put-constants .ensures .0) (c .before .before .before .before .before .before .before .before .zero-u32-from .ensures)
+carry-requires c κs =
+    let z = c .before .before .before .before .before .before .before .before .zero-u32-from in
+    let p = c .before .before .before .before .put-constants in
+    begins _ _ _ (c .before .before .before .before .before .before .before .before .before .before .before .before .before .args .way) _ _ (c .before .before .before .before .before .before .before .before .before .before .before .before .before .pre) _ _ (p .kept .0) (z .kept .0) (p .ensures .0) (z .ensures)
 
 enum-known-noted : tie.Need-enum-known-noted
 enum-known-noted c = search needs
@@ -29,8 +32,11 @@ same-length-2 c = search needs
 
 returns : tie.Need-returns
 returns c =
-    left-over _ _ _ (c .before .before .before .before .before .before .before .before .before .before .before .before .before .before .before .before .before .before .before .before .args .way) _ _ (c .before .before .before .before .before .before .before .before .before .before .before .before .before .before .before .before .before .before .before .before .pre) (c .before .before .before .before .before .before .before .before .before .before .before .put-constants .last .0) (c .before .before .before .before .before .before .before .before .before .before .before .before .before .before .before .zero-u32-from .last .0) (c .before .before .before .before .before .before .before .before .before .before .before .put-constants .kept .0) (c .before .before .before .before .before .before .before .before .before .before .before .before .before .before .before .zero-u32-from .kept .0) (c .before .before .before .before .before .before .before .before .before .before .before .put-constants .ensures .0)
-    (c .before .before .before .before .before .before .carry .last .1 .0) (c .before .before .before .before .before .before .carry .last .1 .1 .0) (c .before .before .before .before .before .before .carry .result) (c .before .before .before .before .before .before .carry .ensures) (c .enum-told .given .1)
+    let s = c .before .before .before .before .before .before .before .before .before .before .before .before .before .before .before .before .before .before .before .before in
+    let z = c .before .before .before .before .before .before .before .before .before .before .before .before .before .before .before .zero-u32-from in
+    let p = c .before .before .before .before .before .before .before .before .before .before .before .put-constants in
+    let k = c .before .before .before .before .before .before .carry in
+    left-over _ _ _ (s .args .way) _ _ (s .pre) (p .last .0) (z .last .0) (p .kept .0) (z .kept .0) (p .ensures .0) (k .last .1 .0) (k .last .1 .1 .0) (k .result) (k .ensures) (c .enum-told .given .1)
 
 same-length-3 : tie.Need-same-length-3
 same-length-3 c = search needs
@@ -40,8 +46,11 @@ same-length-4 c = search needs
 
 returns-2 : tie.Need-returns-2
 returns-2 c =
-    left-false _ _ _ (c .before .before .before .before .before .before .before .before .before .before .before .before .before .before .before .before .before .before .before .before .before .before .before .args .way) _ _ (c .before .before .before .before .before .before .before .before .before .before .before .before .before .before .before .before .before .before .before .before .before .before .before .pre) (c .before .before .before .before .before .before .before .before .before .before .before .before .before .before .put-constants .last .0) (c .before .before .before .before .before .before .before .before .before .before .before .before .before .before .before .before .before .before .zero-u32-from .last .0) (c .before .before .before .before .before .before .before .before .before .before .before .before .before .before .put-constants .kept .0) (c .before .before .before .before .before .before .before .before .before .before .before .before .before .before .before .before .before .before .zero-u32-from .kept .0) (c .before .before .before .before .before .before .before .before .before .before .before .before .before .before .put-constants .ensures .0)
-    (c .before .before .before .before .before .before .before .before .before .carry .last .1 .0) (c .before .before .before .before .before .before .before .before .before .carry .last .1 .1 .0) (c .before .before .before .before .before .before .before .before .before .carry .result) (c .before .before .before .before .before .before .before .before .before .carry .kept .1 .0) (c .before .before .before .before .before .before .before .before .before .carry .ensures) _ _ (c .before .before .before .noted .given .1) (c .if1 .taken)
+    let s = c .before .before .before .before .before .before .before .before .before .before .before .before .before .before .before .before .before .before .before .before .before .before .before in
+    let z = c .before .before .before .before .before .before .before .before .before .before .before .before .before .before .before .before .before .before .zero-u32-from in
+    let p = c .before .before .before .before .before .before .before .before .before .before .before .before .before .before .put-constants in
+    let k = c .before .before .before .before .before .before .before .before .before .carry in
+    left-false _ _ _ (s .args .way) _ _ (s .pre) (p .last .0) (z .last .0) (p .kept .0) (z .kept .0) (p .ensures .0) (k .last .1 .0) (k .last .1 .1 .0) (k .result) (k .kept .1 .0) (k .ensures) _ _ (c .before .before .before .noted .given .1) (c .if1 .taken)
 
 cast-t21 : tie.Need-cast-t21
 cast-t21 c = search needs
@@ -54,8 +63,11 @@ same-length-6 c = search needs
 
 returns-3 : tie.Need-returns-3
 returns-3 c =
-    left-table _ _ _ (c .before .before .before .before .before .before .before .before .before .before .before .before .before .before .before .before .before .before .before .before .before .before .before .args .way) _ _ (c .before .before .before .before .before .before .before .before .before .before .before .before .before .before .before .before .before .before .before .before .before .before .before .pre) (c .before .before .before .before .before .before .before .before .before .before .before .before .before .before .put-constants .last .0) (c .before .before .before .before .before .before .before .before .before .before .before .before .before .before .before .before .before .before .zero-u32-from .last .0) (c .before .before .before .before .before .before .before .before .before .before .before .before .before .before .put-constants .kept .0) (c .before .before .before .before .before .before .before .before .before .before .before .before .before .before .before .before .before .before .zero-u32-from .kept .0) (c .before .before .before .before .before .before .before .before .before .before .before .before .before .before .put-constants .ensures .0)
-    (c .before .before .before .before .before .before .before .before .before .carry .last .1 .0) (c .before .before .before .before .before .before .before .before .before .carry .last .1 .1 .0) (c .before .before .before .before .before .before .before .before .before .carry .result) (c .before .before .before .before .before .before .before .before .before .carry .kept .1 .0) (c .before .before .before .before .before .before .before .before .before .carry .ensures) _ _ (c .before .before .before .noted .given .1) (c .if1 .left)
+    let s = c .before .before .before .before .before .before .before .before .before .before .before .before .before .before .before .before .before .before .before .before .before .before .before in
+    let z = c .before .before .before .before .before .before .before .before .before .before .before .before .before .before .before .before .before .before .zero-u32-from in
+    let p = c .before .before .before .before .before .before .before .before .before .before .before .before .before .before .put-constants in
+    let k = c .before .before .before .before .before .before .before .before .before .carry in
+    left-table _ _ _ (s .args .way) _ _ (s .pre) (p .last .0) (z .last .0) (p .kept .0) (z .kept .0) (p .ensures .0) (k .last .1 .0) (k .last .1 .1 .0) (k .result) (k .kept .1 .0) (k .ensures) _ _ (c .before .before .before .noted .given .1) (c .if1 .left)
 
 pub carry-table-spec : {M : Type 1} → statement M
 carry-table-spec =

@@ -18,7 +18,10 @@ same-length-2 : tie.Need-same-length-2
 same-length-2 c = search needs
 
 returns : tie.Need-returns
-returns c = as-reduced (c .before .before .before .before .before .before .before .before .before .before .args .n) (nodes (c .before .before .before .before .before .before .before .before .before .before .args .count) (c .before .before .before .before .before .before .before .before .before .before .args .bdd .now)) (c .before .before .before .before .before .before .before .before .before .before .args .room) (c .before .before .before .before .carry-table .last .1 .1 .1 .1 .0) (c .before .before .before .before .carry-table .result) false (c .before .before .before .before .carry-table .ensures)
+returns c =
+    let x = c .before .before .before .before .before .before .before .before .before .before .args in
+    let k = c .before .before .before .before .carry-table in
+    as-reduced (x .n) (nodes (x .count) (x .bdd .now)) (x .room) (k .last .1 .1 .1 .1 .0) (k .result) false (k .ensures)
 
 pub reduce-spec : {M : Type 1} → statement M
 reduce-spec = tie.close (tie.spec cast-t9 carry-table-requires same-length same-length-2 returns)

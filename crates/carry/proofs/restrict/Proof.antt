@@ -17,7 +17,10 @@ same-length-2 : tie.Need-same-length-2
 same-length-2 c = search needs
 
 returns : tie.Need-returns
-returns c = as-restricted (c .before .before .before .before .before .before .before .before .before .before .args .n) (nodes (c .before .before .before .before .before .before .before .before .before .before .args .count) (c .before .before .before .before .before .before .before .before .before .before .args .bdd .now)) (c .before .before .before .before .before .before .before .before .before .before .args .room) (c .before .before .before .before .carry-table .last .1 .1 .1 .1 .0) (c .before .before .before .before .carry-table .result) (c .before .before .before .before .before .before .before .before .before .before .args .variable .0) (c .before .before .before .before .before .before .before .before .before .before .args .value) (c .before .before .before .before .carry-table .ensures)
+returns c =
+    let x = c .before .before .before .before .before .before .before .before .before .before .args in
+    let k = c .before .before .before .before .carry-table in
+    as-restricted (x .n) (nodes (x .count) (x .bdd .now)) (x .room) (k .last .1 .1 .1 .1 .0) (k .result) (x .variable .0) (x .value) (k .ensures)
 
 pub restrict-spec : {M : Type 1} → statement M
 restrict-spec =
