@@ -103,7 +103,8 @@ fn check_functions(run: &mut Run, operator: Operator, a: &Small, b: &Small, mark
     let (n, found) = (a.function.n, a.function.found(operator, b.function, mark, value != 0));
     every_room(run, operation(operator, n, &a.canonical, &b.canonical, mark, value), &found);
     let trees = operation(operator, n, &a.tree, &b.tree, mark, value);
-    for room in [found.size().saturating_sub(1), found.size()] {
+    // with room for the whole tree too: it must be reduced all the same
+    for room in [found.size().saturating_sub(1), found.size(), a.tree.len() / 3] {
         run.judge(&trees.with_space(room.max(2), 0), || found.clone());
     }
 }
@@ -265,7 +266,10 @@ fn check_spoiled(run: &mut Run, random: &mut Random, good: &Operation) {
 fn random_tables(run: &mut Run, random: &mut Random) {
     let mut by_marks: Vec<Vec<Operand>> = (0..=60).map(|_| vec![]).collect();
     for table in built(random, 16) {
-        by_marks[usize::from(table.n)].push(Operand::new(random, table));
+        // large ones have a run of their own
+        if table.bdd.size() <= 150 || random.once_in(4) {
+            by_marks[usize::from(table.n)].push(Operand::new(random, table));
+        }
     }
     for tables in by_marks {
         for _ in 0..185 {
@@ -315,7 +319,7 @@ fn large_pair(random: &mut Random, kind: usize) -> (u16, [Meaning; 2]) {
 }
 
 fn large_tables(run: &mut Run, random: &mut Random) {
-    for kind in 0..176 {
+    for kind in 0..286 {
         let (n, meanings) = large_pair(random, kind);
         let built: Vec<Built> = meanings.into_iter().filter_map(|meaning| Built::new(n, meaning)).collect();
         let operands: Vec<Operand> = built.into_iter().map(|table| Operand::new(random, table)).collect();

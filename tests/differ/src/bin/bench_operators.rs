@@ -103,7 +103,7 @@ fn pairs() -> Vec<Pair> {
         made.push(Pair::new("rules", n, [(); 2].map(|()| Meaning::Dnf(windowed(random, n, many, literals, window)))));
         made.push(Pair::new("clauses", n, [(); 2].map(|()| Meaning::Cnf(windowed(random, n, many, literals, window)))));
     }
-    for (n, many) in [(16, 4), (60, 30), (16, 100), (40, 300), (60, 600), (16, 1500), (60, 2500), (60, 5_400)] {
+    for (n, many) in [(16, 5), (60, 30), (16, 100), (40, 300), (60, 600), (16, 1500), (60, 2500), (60, 5_400)] {
         made.push(Pair::new("cases", n, [(); 2].map(|()| dense(random, n, many))));
     }
     for (n, modulus, most) in [(20, 64, 1), (40, 64, 1), (60, 64, 1), (30, 5, 4), (60, 11, 10), (60, 40, 39), (60, 64, 63)] {
@@ -210,7 +210,7 @@ fn defeating(random: &mut Random, modulus: usize, first: usize) -> Bdd {
     sum.bdd.and(&Bdd::mk_literal(60, to_variable(59), first == 1))
 }
 
-/// One call on operands made to defeat a memo; it may take long, so it is announced first.
+/// One call on operands made to defeat a memo; with a memo that forgets it may take minutes, so it is announced first.
 fn time_defeating(buffers: &mut Buffers, modulus: usize) {
     let random = &mut Random::new(32);
     let tables = [defeating(random, modulus, 0), defeating(random, modulus + 1, 1)];
