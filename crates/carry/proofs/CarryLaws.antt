@@ -167,7 +167,6 @@ module _ (bdd out memo : List ℕ) (w : Way) (k m a : ℕ) (r : Carrying bdd out
     pub full-lo : w .room < length ((carried w s o x) .0) → w .room < length ((carried w s o a) .0)
     full-lo h =
         let h′ : w .room < length ((walk o (suc v) lo-tree) .0) = rw (jumps o (r .good) x x-stands) h in
-        let o₁ : Table = (walk o (suc v) lo-tree) .0 in
         rw (splits, walk-fork o v lo-tree hi-tree ((walk o (suc v) lo-tree) .0) ((walk o (suc v) lo-tree) .1) refl)
         (omega (
           arith,

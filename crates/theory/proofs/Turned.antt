@@ -85,8 +85,6 @@ module _ (x : ℕ) (v : Bool) (f : Bool → Bool) where
   pub turned-jump : (n : ℕ) (s o : Table) → Good n o → (l p : ℕ) → l ≤ (at s p) .mark → (at s p) .mark ≤ n
       → walk o l (turned (n - l) s l p) ≡ walk o ((at s p) .mark) (turned (n - (at s p) .mark) s ((at s p) .mark) p)
   turned-jump n s o g l p h i =
-      let j : ℕ = (at s p) .mark - l in
-      let k : ℕ = n - (at s p) .mark in
       let e : n - l ≡ ((at s p) .mark - l) + (n - (at s p) .mark) = omega arith in
       let y : l + ((at s p) .mark - l) ≡ (at s p) .mark = omega arith in
       ap (λ z. walk o l (turned z s l p)) e
