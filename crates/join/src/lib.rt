@@ -104,6 +104,12 @@ fn right_decides(op: u32, y: BddPointer) -> Found
     Found::Nowhere
 }
 
+// How many entries stand at one place of the memory.
+const WAYS: usize = 4;
+
+// An entry has the left node times this, and the result below it.
+const RESULTS: u32 = 4096;
+
 // The place of a pair's entries in the memory.
 pub fn slot(sets: usize, x: BddPointer, y: BddPointer) -> usize
     requires { ⌜ (0 < sets) × (x .0 < maxNodes) × (y .0 < maxNodes) ⌝ }
@@ -117,12 +123,12 @@ pub fn recall(memo: &[u32], x: BddPointer, y: BddPointer) -> Found
     requires { ⌜ (ways ≤ length (now memo)) × (x .0 < maxNodes) × (y .0 < maxNodes) ⌝ }
     ensures { λ r. ⌜ Recalls (now (memo .entry)) (x .0) (y .0) r ⌝ }
 {
-    let from = 4 * slot(memo.len() / 4, x, y);
+    let from = WAYS * slot(memo.len() / WAYS, x, y);
     let mut i: usize = 0;
-    while i < 4 {
+    while i < WAYS {
         let word = memo[from + i];
-        if word / 4096 == x.0 + 1 {
-            return Found::At(BddPointer(word % 4096));
+        if word / RESULTS == x.0 + 1 {
+            return Found::At(BddPointer(word % RESULTS));
         }
         i += 1;
     }
@@ -134,11 +140,11 @@ pub fn remember(memo: &mut [u32], x: BddPointer, y: BddPointer, r: BddPointer)
     requires { ⌜ (ways ≤ length (now memo)) × (x .0 < maxNodes) × (y .0 < maxNodes) × (r .0 < maxNodes) ⌝ }
     ensures { λ _. ⌜ Stores (now (memo .entry)) (now (memo .exit)) (x .0) (y .0) (r .0) ⌝ }
 {
-    let from = 4 * slot(memo.len() / 4, x, y);
+    let from = WAYS * slot(memo.len() / WAYS, x, y);
     memo[from + 3] = memo[from + 2];
     memo[from + 2] = memo[from + 1];
     memo[from + 1] = memo[from];
-    memo[from] = (x.0 + 1) * 4096 + r.0;
+    memo[from] = (x.0 + 1) * RESULTS + r.0;
 }
 
 // The answer of a pair with a constant that decides it.
