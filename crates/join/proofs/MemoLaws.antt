@@ -83,7 +83,7 @@ module _ (m : List ℕ) (f e : ℕ) (within : f + 3 < length m) where
 
 pub slot-within : (sets x y : ℕ) → 0 < sets → slotOf sets x y < sets
 unfolding slotOf
-slot-within sets x y h = mod-lt (x * 1021 + y) h
+slot-within sets x y h = mod-lt (x * 40111 / 16 + y) h
 
 pub room-within : (m : List ℕ) (x y : ℕ) → ways ≤ length m → ways * slotOf (length m / ways) x y + 3 < length m
 room-within m x y h = omega (arith, slot-within (length m / ways) x y (omega arith))
@@ -91,7 +91,7 @@ room-within m x y h = omega (arith, slot-within (length m / ways) x y (omega ari
 -- the left node and the place tell the right node
 slot-tells : (sets x y y′ : ℕ) → y < sets → y′ < sets → slotOf sets x y ≡ slotOf sets x y′ → y ≡ y′
 unfolding slotOf
-slot-tells sets x y y′ h h′ e = mod-same (x * 1021) y y′ sets h h′ e
+slot-tells sets x y y′ h h′ e = mod-same (x * 40111 / 16) y y′ sets h h′ e
 
 module _ (m : List ℕ) (x y r : ℕ) (long : ways ≤ length m) (small : r < maxNodes) (m′ : List ℕ) (is : m′ ≡ pushedIn m (ways * slotOf (length m / ways) x y) (entryOf x r)) where
   abbrev sets : ℕ

@@ -12,9 +12,9 @@ use Rattle.pool.specs.declared.Found.the-variants.{At, Nowhere}
 abbrev pub ways : ℕ
 ways = 4
 
--- the place of a pair. Where there are as many places as right nodes, the left node and the place tell the right node
+-- the place of a pair; the sixteenths keep pairs of one table with itself apart, whatever the number of places. Where there are as many places as right nodes, the left node and the place tell the right node
 unfoldable pub slotOf : ℕ → ℕ → ℕ → ℕ
-slotOf sets x y = (x * 1021 + y) % sets
+slotOf sets x y = (x * 40111 / 16 + y) % sets
 
 -- an entry: the left node and the result; 0 is none
 abbrev pub entryOf : ℕ → ℕ → ℕ

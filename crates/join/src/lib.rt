@@ -115,7 +115,7 @@ pub fn slot(sets: usize, x: BddPointer, y: BddPointer) -> usize
     requires { ⌜ (0 < sets) × (x .0 < maxNodes) × (y .0 < maxNodes) ⌝ }
     ensures { λ r. ⌜ (r ≡ slotOf sets (x .0) (y .0)) × (r < sets) ⌝ }
 {
-    ((x.0 as usize) * 1021 + (y.0 as usize)) % sets
+    ((x.0 as usize) * 40111 / 16 + (y.0 as usize)) % sets
 }
 
 // What the memory holds of a pair: an entry is the left node and the result.
