@@ -17,13 +17,13 @@ use Rattle.making.specs.Room.{overRoom, shortOutput, shortWork}
 use Rattle.admission.specs.Admission.{workFindings, tableRoomFindings, markFindings, pairFindings, sizes, pairSizes, overMark}
 
 -- a row of tests that end in a number: the number that is not 0 is the verdict's refusal
-abbrev Refuses : ℕ → Verdict → Type 0
+abbrev pub Refuses : ℕ → Verdict → Type 0
 Refuses r v = (k : ℕ) → k ≡ r → (k ≡ 0 → ⊥) → refusedWith k 0 ≡ replied v
 
-refuses-none : (v : Verdict) → Refuses 0 v
+pub refuses-none : (v : Verdict) → Refuses 0 v
 refuses-none v k e ne = absurd (ne e)
 
-refuses-test : (b : Bool) (j r : ℕ) (v : Verdict) → Refuses r v → Refuses (cond b j r) (cond b (refused j 0) v)
+pub refuses-test : (b : Bool) (j r : ℕ) (v : Verdict) → Refuses r v → Refuses (cond b j r) (cond b (refused j 0) v)
 unfolding replied
 refuses-test true j r v h k e ne = ap (λ i. refusedWith i 0) e
 refuses-test false j r v h k e ne = h k e ne

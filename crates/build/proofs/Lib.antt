@@ -1,0 +1,4 @@
+pub mod CarryLaws
+pub mod PlainLaws
+pub mod AddLaws
+pub mod BuildLaws

@@ -1,0 +1,257 @@
+-- What a built table means, that it is smallest, and when a build is refused for nodes: of each builder's own verdict.
+use mathlib.Core.Path.{_≡_, refl, sym, ap, subst, _∙_}
+use mathlib.Core.Bool.{Bool, true, false, cond, not}
+use mathlib.Core.List.{List}
+use Prim.Native.Nat.{ℕ, suc, _-_, _^_, _<_, _≤_}
+use native.Mathlib.Omega.{arith}
+use native.Mathlib.Decide.{decLt}
+use lib.Dec.{ltb}
+use lib.ListN.{length}
+use borrow.Author.Tests.{lt-ltb, ltb-true}
+use Rattle.theory.specs.Tree.{Tree, look, tabulate}
+use Rattle.theory.specs.Table.{Table, meaning, canon, Ordered}
+use Rattle.theory.specs.Clause.{Clause}
+use Rattle.theory.proofs.Cases.{look-ext, look-tabulate, tabulate-deep}
+use Rattle.theory.proofs.Canon.{canon-means, canon-ordered}
+use Rattle.theory.proofs.Small.{small, treeOf-deep}
+use Rattle.refusal.specs.Number.{NODES, order}
+use Rattle.refusal.specs.Verdict.{Finding, Verdict, refused, answered, firstOf, tried, judged}
+use Rattle.refusal.proofs.Judged.{Clean, judged-answer}
+use Rattle.refusal.proofs.Firsts.{first-before, first-fails}
+use Rattle.refusal.proofs.Single.{Single, single}
+use Rattle.making.proofs.MakesLaws.{made-one}
+use Rattle.making.specs.Made.{madeReply, makes, tableAnswer}
+use Rattle.cube.specs.Cube.{dnf, cnf, listSays, clauseAt, caseAt, opening}
+use Rattle.builders.specs.Builders.{listedCase, listFindings, runMeans, shortestOver, builds, makesDnf, makesCnf, makesDnfValuation, makesCnfValuation}
+use Rattle.builders.proofs.ListLaws.{cases-small}
+use Rattle.builders.proofs.ListedCases.{dnf-listed, cnf-listed}
+
+-- an ordered table that says f of every case
+pub record Says (n : ℕ) (f : ℕ → Bool) (table : Table) : Type 0 where
+  pub ordered : Ordered n table
+  pub answers : (case : ℕ) → case < 2 ^ n → look (meaning n table) case ≡ f case
+
+-- the verdict is a table that says f of every case, and no ordered table that does has fewer nodes
+pub record Smallest (n : ℕ) (f : ℕ → Bool) (v : Verdict) : Type 0 where
+  pub table : Table
+  pub answer : v ≡ tableAnswer table
+  pub says : Says n f table
+  pub least : (other : Table) → Says n f other → length table ≤ length other
+
+-- no ordered table of at most room nodes says f of every case
+pub NoRoom : ℕ → ℕ → (ℕ → Bool) → Type 0
+NoRoom n room f = (table : Table) → Says n f table → length table ≤ room → ⊥
+
+-- ---- one function
+module _ (n : ℕ) (f : ℕ → Bool) where
+  canon-says : Says n f (canon n (tabulate n f))
+  canon-says = record {
+    ordered = canon-ordered n (tabulate n f) (tabulate-deep n f);
+    answers = λ case h. ap (λ t. look t case) (canon-means n (tabulate n f) (tabulate-deep n f)) ∙ look-tabulate n f case h;
+  }
+
+  canon-least : (other : Table) → Says n f other → length (canon n (tabulate n f)) ≤ length other
+  unfolding meaning
+  canon-least other s =
+      let same : meaning n other ≡ tabulate n f =
+      look-ext n (meaning n other) (tabulate n f) (treeOf-deep n other 0 _) (tabulate-deep n f) (λ case h. s .answers case h ∙ sym (look-tabulate n f case h)) in
+      subst (λ (t : Tree). length (canon n t) ≤ length other) same (small n other (s .ordered))
+
+  over-none : (room : ℕ) → room < length (canon n (tabulate n f)) → NoRoom n room f
+  unfolding NoRoom
+  over-none room h table s le = omega (arith, canon-least table s)
+
+  none-over : (room : ℕ) → NoRoom n room f → room < length (canon n (tabulate n f))
+  unfolding NoRoom
+  none-over room h = elim (decLt room (length (canon n (tabulate n f)))) [
+    | yes e ↦ e
+    | no e ↦ absurd (h (canon n (tabulate n f)) canon-says (omega arith))
+  ]
+
+-- what says the same of every case
+smallest-same : (n : ℕ) (f g : ℕ → Bool) (v : Verdict) → ((case : ℕ) → case < 2 ^ n → f case ≡ g case) → Smallest n f v → Smallest n g v
+smallest-same n f g v same s = record {
+  table = s .table;
+  answer = s .answer;
+  says = record { ordered = s .says .ordered; answers = λ case h. s .says .answers case h ∙ same case h };
+  least = λ other o. s .least other (record { ordered = o .ordered; answers = λ case h. o .answers case h ∙ sym (same case h) });
+}
+
+-- ---- one verdict
+place-is : (k p q : ℕ) → refused k p ≡ refused k q → p ≡ q
+place-is k p q e = cc
+
+not-refused : (k p : ℕ) (vs : List ℕ) (outs : List (List ℕ)) → refused k p ≡ answered vs outs → ⊥
+not-refused k p vs outs e = let z : _≡_ {A = ℕ} 0 1 = cc in omega arith
+
+table-answered : (o : Bool) (p : ℕ) (t : Table) (v : Verdict) (vs : List ℕ) (outs : List (List ℕ)) → v ≡ cond o (refused NODES p) (tableAnswer t) → v ≡ answered vs outs → v ≡ tableAnswer t
+table-answered true p t v vs outs e h = absurd (not-refused NODES p vs outs (sym e ∙ h))
+table-answered false p t v vs outs e h = e
+
+nodes-refused : (o : Bool) (p : ℕ) (t : Table) (v : Verdict) (q : ℕ) → v ≡ cond o (refused NODES p) (tableAnswer t) → v ≡ refused NODES q → (o ≡ true) × (p ≡ q)
+unfolding tableAnswer
+nodes-refused true p t v q e h = (refl, place-is NODES p q (sym e ∙ h))
+nodes-refused false p t v q e h = absurd (not-refused NODES q _ _ (sym h ∙ e))
+
+not-true : (x : Bool) → not x ≡ true → x ≡ true → ⊥
+not-true x e h = let z : _≡_ {A = ℕ} 0 1 = ap (λ b. cond b 1 0) (sym (ap not h) ∙ e) in omega arith
+
+not-false : (x : Bool) → not x ≡ false → x ≡ true
+not-false true e = refl
+not-false false e = sym e
+
+-- ---- a build
+module _ (fs : List Finding) (b : Bool) (n count : ℕ) (entry : ℕ → Clause) (room : ℕ) where
+  -- what the opening run of k entries says
+  abbrev runSays : ℕ → ℕ → Bool
+  runSays k = listSays b n (opening entry k)
+
+  abbrev shortest : ℕ
+  shortest = shortestOver b n count entry room
+
+  abbrev fits : ℕ → Bool
+  fits k = not (ltb room (length (canon n (runMeans b n entry k))))
+
+  build-is : Clean (judged fs) → builds fs b n count entry room ≡ cond (ltb shortest (suc count)) (refused NODES shortest) (tableAnswer (canon n (runMeans b n entry count)))
+  unfolding makes judged tried order firstOf
+  build-is clean = clean _
+
+  -- a build that answers, answers the smallest table that says of every case what the list says
+  built-smallest : (values : List ℕ) (outs : List (List ℕ)) → builds fs b n count entry room ≡ answered values outs → Smallest n (runSays count) (builds fs b n count entry room)
+  unfolding makes
+  built-smallest values outs e =
+      let clean : Clean (judged fs) = judged-answer fs _ values outs e in
+      record {
+        table = canon n (runMeans b n entry count);
+        answer = table-answered (ltb shortest (suc count)) shortest _ _ values outs (build-is clean) e;
+        says = canon-says n (runSays count);
+        least = canon-least n (runSays count);
+      }
+
+  module _ (clean : Clean (judged fs)) where
+    -- past inspection, refused for nodes: that run has no table within room, and every shorter run has one
+    refused-none : (place : ℕ) → builds fs b n count entry room ≡ refused NODES place → (place ≤ count) × NoRoom n room (runSays place) × ((k : ℕ) → k < place → NoRoom n room (runSays k) → ⊥)
+    refused-none place e =
+        let d : (ltb shortest (suc count) ≡ true) × (shortest ≡ place) = nodes-refused _ _ _ _ place (build-is clean) e in
+        let within : shortest < suc count = ltb-true shortest (suc count) (d .0) in
+        (omega (arith, within, d .1), over-none n (runSays place) room (over-at place (d .1) within), λ k h no-room. fit-at k (omega (arith, d .1)) (none-over n (runSays k) room no-room))
+      where
+        over-at : (place : ℕ) → shortest ≡ place → shortest < suc count → room < length (canon n (runMeans b n entry place))
+        over-at place is within = ltb-true _ _ (not-false _ (subst (λ (k : ℕ). fits k ≡ false) is (fails within)))
+          where
+            fails : shortest < suc count → fits shortest ≡ false
+            fails h = unfold shortestOver in first-fails fits (suc count) h
+
+        fit-at : (k : ℕ) → k < shortest → room < length (canon n (runMeans b n entry k)) → ⊥
+        fit-at k h over = not-true (ltb room (length (canon n (runMeans b n entry k)))) (unfold shortestOver in first-before fits (suc count) k h) (lt-ltb _ _ over)
+
+    -- past inspection, where some opening run has no table within room, the build is refused for nodes
+    none-refused : (k : ℕ) → k ≤ count → NoRoom n room (runSays k) → builds fs b n count entry room ≡ refused NODES shortest
+    none-refused k h no-room =
+        let within : shortest < suc count = before (none-over n (runSays k) room no-room) in
+        build-is clean ∙ ap (λ o. cond o (refused NODES shortest) (tableAnswer (canon n (runMeans b n entry count)))) (lt-ltb shortest (suc count) within)
+      where
+        before : room < length (canon n (runMeans b n entry k)) → shortest < suc count
+        before over = elim (decLt shortest (suc count)) [
+          | yes e ↦ e
+          | no e ↦ absurd (not-true (ltb room (length (canon n (runMeans b n entry k)))) (unfold shortestOver in first-before fits (suc count) k (omega arith)) (lt-ltb _ _ over))
+        ]
+
+-- ---- the four builders, for any input at all
+module _ (n count : ℕ) (list : List ℕ) (room : ℕ) (out work : List ℕ) where
+  pub mk-dnf-built : (values : List ℕ) (outs : List (List ℕ)) → makesDnf n count list room out work ≡ answered values outs
+      → Smallest n (dnf n (opening (clauseAt list) count)) (makesDnf n count list room out work)
+  unfolding makesDnf
+  mk-dnf-built values outs e = built-smallest (listFindings false n count list room out work) true n count (clauseAt list) room values outs e
+
+  pub mk-cnf-built : (values : List ℕ) (outs : List (List ℕ)) → makesCnf n count list room out work ≡ answered values outs
+      → Smallest n (cnf n (opening (clauseAt list) count)) (makesCnf n count list room out work)
+  unfolding makesCnf
+  mk-cnf-built values outs e = built-smallest (listFindings false n count list room out work) false n count (clauseAt list) room values outs e
+
+  pub mk-dnf-valuation-built : (values : List ℕ) (outs : List (List ℕ)) → makesDnfValuation n count list room out work ≡ answered values outs
+      → Smallest n (dnf n (opening (caseAt n list) count)) (makesDnfValuation n count list room out work)
+  unfolding makesDnfValuation
+  mk-dnf-valuation-built values outs e = built-smallest (listFindings true n count list room out work) true n count (caseAt n list) room values outs e
+
+  pub mk-cnf-valuation-built : (values : List ℕ) (outs : List (List ℕ)) → makesCnfValuation n count list room out work ≡ answered values outs
+      → Smallest n (cnf n (opening (caseAt n list) count)) (makesCnfValuation n count list room out work)
+  unfolding makesCnfValuation
+  mk-cnf-valuation-built values outs e = built-smallest (listFindings true n count list room out work) false n count (caseAt n list) room values outs e
+
+  -- past inspection, mk_dnf is refused for nodes exactly if some opening run has no such table of at most room nodes; its place is the shortest such run's length
+  pub mk-dnf-refused : Clean (judged (listFindings false n count list room out work)) → (place : ℕ) → makesDnf n count list room out work ≡ refused NODES place
+      → (place ≤ count) × NoRoom n room (dnf n (opening (clauseAt list) place)) × ((k : ℕ) → k < place → NoRoom n room (dnf n (opening (clauseAt list) k)) → ⊥)
+  unfolding makesDnf
+  mk-dnf-refused clean place e = refused-none (listFindings false n count list room out work) true n count (clauseAt list) room clean place e
+
+  pub mk-dnf-over : Clean (judged (listFindings false n count list room out work)) → (k : ℕ) → k ≤ count → NoRoom n room (dnf n (opening (clauseAt list) k))
+      → makesDnf n count list room out work ≡ refused NODES (shortestOver true n count (clauseAt list) room)
+  unfolding makesDnf
+  mk-dnf-over clean k h no-room = none-refused (listFindings false n count list room out work) true n count (clauseAt list) room clean k h no-room
+
+  -- past inspection, mk_cnf is refused for nodes exactly if some opening run has no such table of at most room nodes; its place is the shortest such run's length
+  pub mk-cnf-refused : Clean (judged (listFindings false n count list room out work)) → (place : ℕ) → makesCnf n count list room out work ≡ refused NODES place
+      → (place ≤ count) × NoRoom n room (cnf n (opening (clauseAt list) place)) × ((k : ℕ) → k < place → NoRoom n room (cnf n (opening (clauseAt list) k)) → ⊥)
+  unfolding makesCnf
+  mk-cnf-refused clean place e = refused-none (listFindings false n count list room out work) false n count (clauseAt list) room clean place e
+
+  pub mk-cnf-over : Clean (judged (listFindings false n count list room out work)) → (k : ℕ) → k ≤ count → NoRoom n room (cnf n (opening (clauseAt list) k))
+      → makesCnf n count list room out work ≡ refused NODES (shortestOver false n count (clauseAt list) room)
+  unfolding makesCnf
+  mk-cnf-over clean k h no-room = none-refused (listFindings false n count list room out work) false n count (clauseAt list) room clean k h no-room
+
+  -- past inspection, mk_dnf_valuation is refused for nodes exactly if some opening run has no such table of at most room nodes; its place is the shortest such run's length
+  pub mk-dnf-valuation-refused : Clean (judged (listFindings true n count list room out work)) → (place : ℕ) → makesDnfValuation n count list room out work ≡ refused NODES place
+      → (place ≤ count) × NoRoom n room (dnf n (opening (caseAt n list) place)) × ((k : ℕ) → k < place → NoRoom n room (dnf n (opening (caseAt n list) k)) → ⊥)
+  unfolding makesDnfValuation
+  mk-dnf-valuation-refused clean place e = refused-none (listFindings true n count list room out work) true n count (caseAt n list) room clean place e
+
+  pub mk-dnf-valuation-over : Clean (judged (listFindings true n count list room out work)) → (k : ℕ) → k ≤ count → NoRoom n room (dnf n (opening (caseAt n list) k))
+      → makesDnfValuation n count list room out work ≡ refused NODES (shortestOver true n count (caseAt n list) room)
+  unfolding makesDnfValuation
+  mk-dnf-valuation-over clean k h no-room = none-refused (listFindings true n count list room out work) true n count (caseAt n list) room clean k h no-room
+
+  -- past inspection, mk_cnf_valuation is refused for nodes exactly if some opening run has no such table of at most room nodes; its place is the shortest such run's length
+  pub mk-cnf-valuation-refused : Clean (judged (listFindings true n count list room out work)) → (place : ℕ) → makesCnfValuation n count list room out work ≡ refused NODES place
+      → (place ≤ count) × NoRoom n room (cnf n (opening (caseAt n list) place)) × ((k : ℕ) → k < place → NoRoom n room (cnf n (opening (caseAt n list) k)) → ⊥)
+  unfolding makesCnfValuation
+  mk-cnf-valuation-refused clean place e = refused-none (listFindings true n count list room out work) false n count (caseAt n list) room clean place e
+
+  pub mk-cnf-valuation-over : Clean (judged (listFindings true n count list room out work)) → (k : ℕ) → k ≤ count → NoRoom n room (cnf n (opening (caseAt n list) k))
+      → makesCnfValuation n count list room out work ≡ refused NODES (shortestOver false n count (caseAt n list) room)
+  unfolding makesCnfValuation
+  mk-cnf-valuation-over clean k h no-room = none-refused (listFindings true n count list room out work) false n count (caseAt n list) room clean k h no-room
+
+  -- from a list of cases as DNF clauses: yes exactly at the listed cases
+  pub mk-dnf-valuation-cases : (values : List ℕ) (outs : List (List ℕ)) → makesDnfValuation n count list room out work ≡ answered values outs
+      → Smallest n (listedCase list count) (makesDnfValuation n count list room out work)
+  unfolding makesDnfValuation makes
+  mk-dnf-valuation-cases values outs e =
+      let clean : Clean (judged (listFindings true n count list room out work)) = judged-answer (listFindings true n count list room out work) _ values outs e in
+      smallest-same n (dnf n (opening (caseAt n list) count)) (listedCase list count) _
+      (λ case h. dnf-listed n list case h count (cases-small true n count list room out work clean refl))
+      (mk-dnf-valuation-built values outs e)
+
+  -- as CNF clauses: no exactly at the complements of the listed cases over the n marks
+  pub mk-cnf-valuation-cases : (values : List ℕ) (outs : List (List ℕ)) → makesCnfValuation n count list room out work ≡ answered values outs
+      → Smallest n (λ case. not (listedCase list count (2 ^ n - 1 - case))) (makesCnfValuation n count list room out work)
+  unfolding makesCnfValuation makes
+  mk-cnf-valuation-cases values outs e =
+      let clean : Clean (judged (listFindings true n count list room out work)) = judged-answer (listFindings true n count list room out work) _ values outs e in
+      smallest-same n (cnf n (opening (caseAt n list) count)) (λ case. not (listedCase list count (2 ^ n - 1 - case))) _
+      (λ case h. cnf-listed n list case h count (cases-small true n count list room out work clean refl))
+      (mk-cnf-valuation-built values outs e)
+
+  -- for any input at all, one possible return value; the buffers are given by equations
+  pub mk-dnf-single : Single madeReply (makesDnf n count list room out work)
+  mk-dnf-single = single madeReply made-one (makesDnf n count list room out work)
+
+  pub mk-cnf-single : Single madeReply (makesCnf n count list room out work)
+  mk-cnf-single = single madeReply made-one (makesCnf n count list room out work)
+
+  pub mk-dnf-valuation-single : Single madeReply (makesDnfValuation n count list room out work)
+  mk-dnf-valuation-single = single madeReply made-one (makesDnfValuation n count list room out work)
+
+  pub mk-cnf-valuation-single : Single madeReply (makesCnfValuation n count list room out work)
+  mk-cnf-valuation-single = single madeReply made-one (makesCnfValuation n count list room out work)

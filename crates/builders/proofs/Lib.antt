@@ -1,0 +1,4 @@
+pub mod ListLaws
+pub mod BuilderLaws
+pub mod ListedCases
+pub mod Built

@@ -1,0 +1,4 @@
+pub mod Shifts
+pub mod Cubes
+pub mod Runs
+pub mod Sizes

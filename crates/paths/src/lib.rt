@@ -1,0 +1,1 @@
+// The mathematics of path lists: one clause for each path of a table. No code.

@@ -1,0 +1,4 @@
+pub mod SideLaws
+pub mod SplitLaws
+pub mod SettleLaws
+pub mod PutLaws
