@@ -31,6 +31,7 @@ ghost use Rattle.valuation.specs.Replies.{lookupReply, updatedReply, lastFixedR
 ghost use Rattle.valuation.specs.Valuation.{saysClause, asksEmpty, countsFixed, findsLast, gathersValues, listsValues, getsValue, asksValue, setsValue, unsetsValue, asksExtends, asksEqual};
 ghost use Rattle.making.specs.Made.{madeReply};
 ghost use Rattle.operators.specs.Operators.{makesAnd, makesOr, makesAndNot, makesForAll, makesExists};
+ghost use Rattle.builders.specs.Builders.{makesDnf, makesCnf, makesDnfValuation, makesCnfValuation};
 ghost use Rattle.unary.specs.Unary.{marksReply, negates, restricts, supports, countsCases};
 ghost use Rattle.exports.specs.Exports.{Exported, ExportedWork, replyLength, replyWords, accepted, bufferWith, replyAfter, writtenWords};
 
@@ -538,4 +539,80 @@ pub extern "C" fn collartug_exact_cardinality(
     }
     let counted = unary::exact_cardinality(n, count, bdd, work);
     write_reply(reply, counted_written(counted))
+}
+
+#[no_mangle]
+pub extern "C" fn collartug_mk_dnf(
+    n: u16,
+    count: usize,
+    clauses: &[u64],
+    room: usize,
+    out: &mut [u32],
+    work: &mut [u32],
+    reply: &mut [u64],
+) -> u64
+    ensures { λ r. ⌜ Exported (makesDnf n count (now (clauses .entry)) room (now (out .entry)) (now (work .entry))) r (now (out .entry)) (now (out .exit)) (now (work .entry)) (now (work .exit)) (now (reply .entry)) (now (reply .exit)) ⌝ }
+{
+    if reply.len() < REPLY_WORDS {
+        return 0;
+    }
+    let made = builders::mk_dnf(n, count, clauses, room, out, work);
+    write_reply(reply, made_written(made))
+}
+
+#[no_mangle]
+pub extern "C" fn collartug_mk_cnf(
+    n: u16,
+    count: usize,
+    clauses: &[u64],
+    room: usize,
+    out: &mut [u32],
+    work: &mut [u32],
+    reply: &mut [u64],
+) -> u64
+    ensures { λ r. ⌜ Exported (makesCnf n count (now (clauses .entry)) room (now (out .entry)) (now (work .entry))) r (now (out .entry)) (now (out .exit)) (now (work .entry)) (now (work .exit)) (now (reply .entry)) (now (reply .exit)) ⌝ }
+{
+    if reply.len() < REPLY_WORDS {
+        return 0;
+    }
+    let made = builders::mk_cnf(n, count, clauses, room, out, work);
+    write_reply(reply, made_written(made))
+}
+
+#[no_mangle]
+pub extern "C" fn collartug_mk_dnf_valuation(
+    n: u16,
+    count: usize,
+    cases: &[u64],
+    room: usize,
+    out: &mut [u32],
+    work: &mut [u32],
+    reply: &mut [u64],
+) -> u64
+    ensures { λ r. ⌜ Exported (makesDnfValuation n count (now (cases .entry)) room (now (out .entry)) (now (work .entry))) r (now (out .entry)) (now (out .exit)) (now (work .entry)) (now (work .exit)) (now (reply .entry)) (now (reply .exit)) ⌝ }
+{
+    if reply.len() < REPLY_WORDS {
+        return 0;
+    }
+    let made = builders::mk_dnf_valuation(n, count, cases, room, out, work);
+    write_reply(reply, made_written(made))
+}
+
+#[no_mangle]
+pub extern "C" fn collartug_mk_cnf_valuation(
+    n: u16,
+    count: usize,
+    cases: &[u64],
+    room: usize,
+    out: &mut [u32],
+    work: &mut [u32],
+    reply: &mut [u64],
+) -> u64
+    ensures { λ r. ⌜ Exported (makesCnfValuation n count (now (cases .entry)) room (now (out .entry)) (now (work .entry))) r (now (out .entry)) (now (out .exit)) (now (work .entry)) (now (work .exit)) (now (reply .entry)) (now (reply .exit)) ⌝ }
+{
+    if reply.len() < REPLY_WORDS {
+        return 0;
+    }
+    let made = builders::mk_cnf_valuation(n, count, cases, room, out, work);
+    write_reply(reply, made_written(made))
 }
