@@ -61,6 +61,13 @@ module _ (w ys : List ℕ) (s e : ℕ) (h : s ≤ e) (i : e ≤ length w) (l : l
         sym (ap (λ (z : ℕ). drop z back) n) ∙ sym (drop-drop (e - s) s back) ∙ ap (drop (e - s)) at-s ∙ drop-at ys _ (e - s) l ∙ drop-drop (e - s) s w ∙ ap (λ (z : ℕ). drop z w) n;
   }
 
+-- the same, with what is known of the words that came back
+pub lent-back : (w ys : List ℕ) (s e : ℕ) → s ≤ e → e ≤ length w → length ys ≡ length (part s e w) → (P : List ℕ → Type 0) → P ys
+    → Kept w (take s w ++ (ys ++ drop (e - s) (drop s w))) s e × P (part s e (take s w ++ (ys ++ drop (e - s) (drop s w))))
+lent-back w ys s e h i l P x =
+    let n : length ys ≡ e - s = l ∙ part-long s e w i in
+    (back-kept w ys s e h i n, subst P (sym (back-part w ys s e h i n)) x)
+
 -- ---- a held table
 module _ (n : ℕ) (w : List ℕ) (o k : ℕ) (f : Tree) (t : Tab n w o k f) where
   part-is : part o (o + stride * k) w ≡ wordsOf (canon n f)
