@@ -12,7 +12,10 @@ use Rattle.theory.proofs.Words.{length-nodes, nodes-words, words-nodes}
 use Rattle.theory.proofs.Canon.{canon-ordered, canon-means}
 use Rattle.refusal.specs.Limits.{maxMarks, maxNodes}
 use Rattle.table.specs.Inspection.{SoundTable}
-use Rattle.frame.specs.Held.{part, Kept, Tab, Held}
+use Rattle.frame.specs.declared.Size.{Size}
+use Rattle.frame.specs.declared.Made.{Made}
+use Rattle.frame.specs.declared.Made.the-variants.{Count, Over}
+use Rattle.frame.specs.Held.{part, Kept, Tab, Left, Gives}
 
 pub drop-take : (s d : ℕ) (w : List ℕ) → drop s (take d w) ≡ take (d - s) (drop s w)
 drop-take zero d w = let e : d ≡ d - zero = omega arith in ap (λ (z : ℕ). take z w) e
@@ -107,3 +110,8 @@ tab-made n w d e k g deep h i l is = record {
   count = sym (length-nodes k (part d e w)) ∙ ap length is;
   words = sym (take-take (stride * k) (e - d) (drop d w) l) ∙ sym (words-nodes k (part d e w) (omega (arith, part-long d e w i))) ∙ ap wordsOf is;
 }
+
+-- what a whole operation leaves in its place is its answer
+pub left-gives : (q : Size) (w : List ℕ) (d e : ℕ) (g : Tree) → Deep (q .n) g → d ≤ e → e ≤ length w → (r : Made) → Left (q .n) (q .room) g (part d e w) r → Gives q w d g r
+left-gives q w d e g deep h i (Count k) x = (tab-made (q .n) w d e k g deep h i (omega (arith, x .0, part-long d e w i)) (x .1), x .2)
+left-gives q w d e g deep h i Over x = x

@@ -5,7 +5,7 @@ use Prim.Native.Nat.{ℕ, _+_, _*_, _-_, _≤_, _<_}
 use lib.ListN.{length, take, drop}
 use Rattle.theory.specs.Tree.{Tree, Deep}
 use Rattle.theory.specs.Table.{canon}
-use Rattle.theory.specs.Words.{stride, wordsOf}
+use Rattle.theory.specs.Words.{stride, nodes, wordsOf}
 use Rattle.refusal.specs.Limits.{minRoom, maxMarks, maxNodes}
 use Rattle.frame.specs.declared.Size.{Size}
 use Rattle.frame.specs.declared.Made.{Made}
@@ -40,6 +40,17 @@ pub record Lies (q : Size) (len d : ℕ) : Type 0 where
   pub some : minRoom ≤ q .room
   pub few : q .wide ≤ maxNodes
   pub marks : q .n ≤ maxMarks
+
+-- a held table below d, of no more nodes than a place has
+pub record Operand (q : Size) (w : List ℕ) (a k d : ℕ) : Type 0 where
+  pub held : Held (q .n) w a k
+  pub below : a + stride * k ≤ d
+  pub few : k ≤ q .wide
+
+-- the canonical table of g in the words of its place, or more nodes than room
+abbrev pub Left : ℕ → ℕ → Tree → List ℕ → Made → Type 0
+Left n room g out (Count k) = (stride * k ≤ length out) × (nodes k out ≡ canon n g) × (k ≤ room)
+Left n room g out Over = room < length (canon n g)
 
 -- an operation's answer: the canonical table of g stands at d, or is over room
 abbrev pub Gives : Size → List ℕ → ℕ → Tree → Made → Type 0
