@@ -4,18 +4,13 @@ use mathlib.Core.Bool.{Bool, true, false, not, _||_, _&&_}
 use mathlib.Core.List.{List}
 use Prim.Native.Nat.{ℕ, _+_, _-_, _*_, _<_, _≤_}
 use native.Mathlib.Omega.{arith}
-use lib.Dec.{ltb}
 use lib.ListN.{length, take}
-use borrow.Author.Tests.{ltb-true, ltb-false}
 use Rattle.theory.specs.Tree.{Tree, Deep, pointwise, cofactor, forAllMark, existsMark}
-use Rattle.theory.specs.Table.{constants, canon, meaning}
+use Rattle.theory.specs.Table.{constants}
 use Rattle.theory.specs.Words.{stride, nodes}
-use Rattle.theory.proofs.Words.{length-nodes}
 use Rattle.theory.proofs.Cases.{pointwise-deep, cofactor-deep}
 use Rattle.refusal.specs.Buffers.{padded}
 use Rattle.table.specs.declared.BddPointer.{BddPointer}
-use Rattle.making.specs.declared.Tabled.the-variants as tabled
-use Rattle.making.specs.Made.{Leaves}
 use Rattle.pool.specs.declared.Noted.{Noted}
 use Rattle.pool.specs.declared.Noted.the-variants.{Node as Got, Full}
 use Rattle.join.specs.declared.Job.{Job}
@@ -27,18 +22,12 @@ use Rattle.frame.specs.declared.Size.{Size}
 use Rattle.frame.specs.declared.Made.{Made}
 use Rattle.frame.specs.declared.Made.the-variants.{Count, Over}
 use Rattle.frame.specs.Held.{part, Kept, Tab, Lies, Operand, Left, Gives, Turns, Joins}
-use Rattle.frame.proofs.Views.{part-front, part-back, part-long, front-less, tab-means, tab-sound, left-gives}
+use Rattle.frame.proofs.Views.{part-front, part-back, part-long, front-less, tab-means, tab-sound, leaves-over, leaves-count, left-gives}
 use Rattle.frame_join.specs.declared.Place.{Place}
 use Rattle.frame_join.specs.Framed.{leftPart, rightPart, outPart, memoPart, Layout, JoiningIn, GivenIn}
 use Rattle.frame_join.proofs.FramedLaws.{layout-kept, out-long, memo-long, left-kept, right-kept}
 
 -- ---- from the constants and an empty memory to the canonical table
-leaves-over : (n room : ℕ) (g : Tree) (out : List ℕ) → Leaves (ltb room (length (canon n g))) 0 (canon n g) out (tabled.Over 0) → Left n room g out Over
-leaves-over n room g out x = ltb-true room (length (canon n g)) (x .0)
-
-leaves-count : (n room : ℕ) (g : Tree) (out : List ℕ) (c : ℕ) → Leaves (ltb room (length (canon n g))) 0 (canon n g) out (tabled.Count c) → Left n room g out (Count c)
-leaves-count n room g out c x = (x .0, x .1, omega (arith, ltb-false room (length (canon n g)) (x .2), ap length (x .1), length-nodes c out))
-
 module _ (w : List ℕ) (at : Place) (j : Job) (g : GivenIn w at j) where
   abbrev a : List ℕ
   a = leftPart w at j
