@@ -1,5 +1,6 @@
 -- Tables in one slice, by their offsets: what is held where, and what an operation leaves.
 use mathlib.Core.Path.{_≡_}
+use mathlib.Core.Bool.{Bool}
 use mathlib.Core.List.{List}
 use Prim.Native.Nat.{ℕ, _+_, _*_, _-_, _≤_, _<_}
 use lib.ListN.{length, take, drop}
@@ -32,14 +33,18 @@ pub record Held (n : ℕ) (w : List ℕ) (o k : ℕ) : Type 0 where
   pub tree : Tree
   pub tab : Tab n w o k tree
 
--- a table may be made at d: there is place for it below the memory, which lasts to the end
-pub record Lies (q : Size) (len d : ℕ) : Type 0 where
-  pub below : d + stride * q .wide ≤ q .mem
+-- the slice is long enough, and its numbers are within the limits
+pub record Sized (q : Size) (len : ℕ) : Type 0 where
   pub mem : q .mem + 12 * q .wide ≤ len
   pub room : q .room ≤ q .wide
   pub some : minRoom ≤ q .room
   pub few : q .wide ≤ maxNodes
   pub marks : q .n ≤ maxMarks
+
+-- a table may be made at d: there is place for it below the memory
+pub record Lies (q : Size) (len d : ℕ) : Type 0 where
+  pub below : d + stride * q .wide ≤ q .mem
+  pub size : Sized q len
 
 -- a held table below d, of no more nodes than a place has
 pub record Operand (q : Size) (w : List ℕ) (a k d : ℕ) : Type 0 where
@@ -64,6 +69,14 @@ Turns t q w w′ a k d r = (f : Tree) → Tab (q .n) w a k f → Gives q w′ d 
 -- two tables joined
 abbrev pub Joins : (Tree → Tree → Tree) → Size → List ℕ → List ℕ → ℕ → ℕ → ℕ → ℕ → ℕ → Made → Type 0
 Joins t q w w′ a k b j d r = (f g : Tree) → Tab (q .n) w a k f → Tab (q .n) w b j g → Gives q w′ d (t f g) r
+
+-- two tables tested
+abbrev pub Tests : (Tree → Tree → Bool) → ℕ → List ℕ → ℕ → ℕ → ℕ → ℕ → Bool → Type 0
+Tests t n w a k b j r = (f g : Tree) → Tab n w a k f → Tab n w b j g → r ≡ t f g
+
+-- what is read off a table
+abbrev pub Reads : {A : Type 0} → (Tree → A) → ℕ → List ℕ → ℕ → ℕ → A → Type 0
+Reads t n w a k r = (f : Tree) → Tab n w a k f → r ≡ t f
 
 -- a table copied
 abbrev pub Copies : ℕ → List ℕ → List ℕ → ℕ → ℕ → ℕ → Type 0

@@ -15,13 +15,13 @@ use Rattle.pool.specs.declared.Noted.{Noted}
 use Rattle.pool.specs.declared.Noted.the-variants.{Node as Got, Full}
 use Rattle.join.specs.declared.Job.{Job}
 use Rattle.join.specs.Task.{opOf}
-use Rattle.join.specs.Joining.{joinedBy, Joining, Joins as Descends, cutCount}
+use Rattle.join.specs.Joining.{joinedBy, Operands, Joining, Joins as Descends, cutCount}
 use Rattle.join.proofs.TruthLaws.{cofactor-none}
 use Rattle.join.proofs.WholeLaws.{start-ready, whole-over, whole-count}
 use Rattle.frame.specs.declared.Size.{Size}
 use Rattle.frame.specs.declared.Made.{Made}
 use Rattle.frame.specs.declared.Made.the-variants.{Count, Over}
-use Rattle.frame.specs.Held.{part, Kept, Tab, Lies, Operand, Left, Gives, Turns, Joins}
+use Rattle.frame.specs.Held.{part, Kept, Tab, Sized, Lies, Operand, Left, Gives, Turns, Joins}
 use Rattle.frame.proofs.Views.{part-front, part-back, part-long, front-less, tab-means, tab-sound, leaves-over, leaves-count, left-gives}
 use Rattle.frame_join.specs.declared.Place.{Place}
 use Rattle.frame_join.specs.Framed.{leftPart, rightPart, outPart, memoPart, Layout, JoiningIn, GivenIn}
@@ -100,7 +100,7 @@ module _ (w : List ℕ) (at : Place) (j : Job) (g : GivenIn w at j) where
       )
 
 -- ---- an operation of two held tables, each with a mark set
-abbrev jobOf : Size → ℕ → ℕ → ℕ → Bool → ℕ → ℕ → Bool → Job
+abbrev pub jobOf : Size → ℕ → ℕ → ℕ → Bool → ℕ → ℕ → Bool → Job
 jobOf q op k x u j y v = record {
   n = q .n;
   op = op;
@@ -109,42 +109,57 @@ jobOf q op k x u j y v = record {
   room = q .room;
 }
 
-abbrev placeOf : Size → ℕ → ℕ → ℕ → ℕ → Place
+abbrev pub placeOf : Size → ℕ → ℕ → ℕ → ℕ → Place
 placeOf q a b d size = record { left = a; right = b; out = d; memo = q .mem; end = q .mem + size }
 
-module _ (q : Size) (w : List ℕ) (d a k b j : ℕ) (lies : Lies q (length w) d) (ha : Operand q w a k d) (hb : Operand q w b j d) (size : ℕ) (op x : ℕ) (u : Bool) (y : ℕ) (v : Bool) where
+module _ (q : Size) (w : List ℕ) (d a k b j : ℕ) (sized : Sized q (length w)) (ha : Operand q w a k d) (hb : Operand q w b j d) (size : ℕ) (op x : ℕ) (u : Bool) (y : ℕ) (v : Bool) where
   abbrev J : Job
   J = jobOf q op k x u j y v
 
   abbrev P : Place
   P = placeOf q a b d size
 
-  pub given-in : 4 * j ≤ size → size ≤ 12 * q .wide → GivenIn w P J
-  given-in h i =
-      let fits : q .mem + size ≤ length w = omega (arith, lies .mem) in
-      let out-size : length (outPart w P) ≡ q .mem - d = part-long d (q .mem) w (omega arith) in
-      let memo-size : length (memoPart w P) ≡ size = part-long (q .mem) (q .mem + size) w fits ∙ (omega arith) in
-      record {
-        layout = record { left = ha .below; right = hb .below; out = omega (arith, lies .below); memo = omega arith; end = fits };
-        asks = record {
-          operands = record {
-            left = tab-sound (q .n) w a k (ha .held .tree) (ha .held .tab) (lies .marks) (omega (arith, ha .few, lies .few));
-            right = tab-sound (q .n) w b j (hb .held .tree) (hb .held .tab) (lies .marks) (omega (arith, hb .few, lies .few));
-            slots = omega (arith, memo-size);
-          };
-          some = lies .some;
-          few = omega (arith, lies .room, lies .few);
-          long = omega (arith, out-size, lies .below, lies .room);
-        };
-      }
+  module _ (within : size ≤ 12 * q .wide) where
+    fits : q .mem + size ≤ length w
+    fits = omega (arith, sized .mem)
 
-  module _ (w′ : List ℕ) (n : length w′ ≡ length w) (r : Made) (left : Left (q .n) (q .room) (joinedBy (leftPart w P J) (rightPart w P J) J) (outPart w′ P) r) where
+    pub layout-in : d ≤ q .mem → Layout w P J
+    layout-in h = record { left = ha .below; right = hb .below; out = h; memo = omega arith; end = fits }
+
+    pub operands-in : 4 * j ≤ size → Operands (leftPart w P J) (rightPart w P J) (memoPart w P) J
+    operands-in h =
+        let memo-size : length (memoPart w P) ≡ size = part-long (q .mem) (q .mem + size) w fits ∙ (omega arith) in
+        record {
+          left = tab-sound (q .n) w a k (ha .held .tree) (ha .held .tab) (sized .marks) (omega (arith, ha .few, sized .few));
+          right = tab-sound (q .n) w b j (hb .held .tree) (hb .held .tab) (sized .marks) (omega (arith, hb .few, sized .few));
+          slots = omega (arith, memo-size);
+        }
+
+    pub given-in : 4 * j ≤ size → d + stride * q .wide ≤ q .mem → GivenIn w P J
+    given-in h below =
+        let out-size : length (outPart w P) ≡ q .mem - d = part-long d (q .mem) w (omega (arith, fits)) in
+        record {
+          layout = layout-in (omega arith);
+          asks = record {
+            operands = operands-in h;
+            some = sized .some;
+            few = omega (arith, sized .room, sized .few);
+            long = omega (arith, out-size, sized .room);
+          };
+        }
+
+  -- the function that the job joins
+  pub joins-trees : (f g : Tree) → Tab (q .n) w a k f → Tab (q .n) w b j g → joinedBy (leftPart w P J) (rightPart w P J) J ≡ pointwise (opOf op) (cofactor x u f) (cofactor y v g)
+  joins-trees f g tf tg = ap₂ (λ s t. pointwise (opOf op) (cofactor x u s) (cofactor y v t)) (tab-means (q .n) w a k f tf) (tab-means (q .n) w b j g tg)
+
+  pub joins-deep : (f g : Tree) → Tab (q .n) w a k f → Tab (q .n) w b j g → Deep (q .n) (pointwise (opOf op) (cofactor x u f) (cofactor y v g))
+  joins-deep f g tf tg = pointwise-deep (opOf op) (q .n) (cofactor x u f) (cofactor y v g) (cofactor-deep (q .n) x u f (tf .deep)) (cofactor-deep (q .n) y v g (tg .deep))
+
+  module _ (below : d + stride * q .wide ≤ q .mem) (w′ : List ℕ) (n : length w′ ≡ length w) (r : Made) (left : Left (q .n) (q .room) (joinedBy (leftPart w P J) (rightPart w P J) J) (outPart w′ P) r) where
     pub gives-in : (f g : Tree) → Tab (q .n) w a k f → Tab (q .n) w b j g → Gives q w′ d (pointwise (opOf op) (cofactor x u f) (cofactor y v g)) r
     gives-in f g tf tg =
-        let is : joinedBy (leftPart w P J) (rightPart w P J) J ≡ pointwise (opOf op) (cofactor x u f) (cofactor y v g) =
-        ap₂ (λ s t. pointwise (opOf op) (cofactor x u s) (cofactor y v t)) (tab-means (q .n) w a k f tf) (tab-means (q .n) w b j g tg) in
-        left-gives q w′ d (q .mem) _ (pointwise-deep (opOf op) (q .n) _ _ (cofactor-deep (q .n) x u f (tf .deep)) (cofactor-deep (q .n) y v g (tg .deep)))
-        (omega (arith, lies .below)) (omega (arith, lies .mem)) r (subst (λ t. Left (q .n) (q .room) t (outPart w′ P) r) is left)
+        left-gives q w′ d (q .mem) (pointwise (opOf op) (cofactor x u f) (cofactor y v g)) (joins-deep f g tf tg) (omega arith) (omega (arith, sized .mem)) r
+        (subst (λ t. Left (q .n) (q .room) t (outPart w′ P) r) (joins-trees f g tf tg) left)
 
 -- the tables as they are
 pub pair-gives : (q : Size) (w : List ℕ) (d a k b j : ℕ) (lies : Lies q (length w) d) (ha : Operand q w a k d) (hb : Operand q w b j d) (size op : ℕ) (w′ : List ℕ) → length w′ ≡ length w → (r : Made)
@@ -152,13 +167,13 @@ pub pair-gives : (q : Size) (w : List ℕ) (d a k b j : ℕ) (lies : Lies q (len
     Left (q .n) (q .room) (joinedBy (leftPart w P J) (rightPart w P J) J) (outPart w′ P) r → Joins (pointwise (opOf op)) q w w′ a k b j d r
 pair-gives q w d a k b j lies ha hb size op w′ n r left f g tf tg =
     subst (λ t. Gives q w′ d t r) (ap₂ (pointwise (opOf op)) (cofactor-none (q .n) (q .n) false f (tf .deep) (omega arith)) (cofactor-none (q .n) (q .n) false g (tg .deep) (omega arith)))
-    (gives-in q w d a k b j lies ha hb size op (q .n) false (q .n) false w′ n r left f g tf tg)
+    (gives-in q w d a k b j (lies .size) ha hb size op (q .n) false (q .n) false (lies .below) w′ n r left f g tf tg)
 
 -- one table, with the mark at 0 and at 1
 pub mark-gives : (q : Size) (w : List ℕ) (d a k : ℕ) (lies : Lies q (length w) d) (ha : Operand q w a k d) (size op x : ℕ) (w′ : List ℕ) → length w′ ≡ length w → (r : Made)
     → let J : Job = jobOf q op k x false k x true in let P : Place = placeOf q a a d size in
     Left (q .n) (q .room) (joinedBy (leftPart w P J) (rightPart w P J) J) (outPart w′ P) r → Turns (λ f. pointwise (opOf op) (cofactor x false f) (cofactor x true f)) q w w′ a k d r
-mark-gives q w d a k lies ha size op x w′ n r left f tf = gives-in q w d a k a k lies ha ha size op x false x true w′ n r left f f tf tf
+mark-gives q w d a k lies ha size op x w′ n r left f tf = gives-in q w d a k a k (lies .size) ha ha size op x false x true (lies .below) w′ n r left f f tf tf
 
 -- by the operation's truth table
 pub marked-by : (q : Size) (w w′ : List ℕ) (a k d op x : ℕ) (o : Bool → Bool → Bool) → opOf op ≡ o → (r : Made)

@@ -32,7 +32,7 @@ pub struct Place {
 }
 
 // What is known of the pair, or where it is split.
-fn split_in(w: &[u32], at: Place, job: Job, pair: Pair) -> Step
+pub fn split_in(w: &[u32], at: Place, job: Job, pair: Pair) -> Step
     requires { ⌜ SplittingIn (now w) at job (pair .left .0) (pair .right .0) ⌝ }
     ensures { λ r. ⌜ Splits (leftPart (now (w .entry)) at job) (rightPart (now (w .entry)) at job) (memoPart (now (w .entry)) at) job (pair .left .0) (pair .right .0) r ⌝ }
 {
@@ -52,7 +52,7 @@ fn split_in(w: &[u32], at: Place, job: Job, pair: Pair) -> Step
 }
 
 // A pair's answer, kept in the words from start to end.
-fn remember_in(w: &mut [u32], start: usize, end: usize, pair: Pair, r: BddPointer)
+pub fn remember_in(w: &mut [u32], start: usize, end: usize, pair: Pair, r: BddPointer)
     requires { ⌜ (start ≤ end) × (end ≤ length (now w)) × (ways ≤ length (part start end (now w))) × (pair .left .0 < maxNodes) × (pair .right .0 < maxNodes) × (r .0 < maxNodes) ⌝ }
     ensures { λ _. ⌜ Kept (now (w .entry)) (now (w .exit)) start end ⌝ }
     ensures { λ _. ⌜ Stores (part start end (now (w .entry))) (part start end (now (w .exit))) (pair .left .0) (pair .right .0) (r .0) ⌝ }
