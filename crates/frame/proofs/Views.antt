@@ -19,7 +19,7 @@ use Rattle.making.specs.Made.{Leaves}
 use Rattle.frame.specs.declared.Size.{Size}
 use Rattle.frame.specs.declared.Made.{Made}
 use Rattle.frame.specs.declared.Made.the-variants.{Count, Over}
-use Rattle.frame.specs.Held.{part, Kept, Tab, Left, Gives}
+use Rattle.frame.specs.Held.{part, Kept, Tab, Sized, Lies, Left, Gives}
 
 pub drop-take : (s d : ℕ) (w : List ℕ) → drop s (take d w) ≡ take (d - s) (drop s w)
 drop-take zero d w = let e : d ≡ d - zero = omega arith in ap (λ (z : ℕ). take z w) e
@@ -114,6 +114,9 @@ tab-made n w d e k g deep h i l is = record {
   count = sym (length-nodes k (part d e w)) ∙ ap length is;
   words = sym (take-take (stride * k) (e - d) (drop d w) l) ∙ sym (words-nodes k (part d e w) (omega (arith, part-long d e w i))) ∙ ap wordsOf is;
 }
+
+pub sized-of : (q : Size) (len d : ℕ) → Lies q len d → Sized q len
+sized-of q len d l = record { mem = l .mem; few = l .few; marks = l .marks }
 
 -- a core's answer as an operation's
 pub leaves-over : (n room : ℕ) (g : Tree) (out : List ℕ) → Leaves (ltb room (length (canon n g))) 0 (canon n g) out (tabled.Over 0) → Left n room g out Over

@@ -33,18 +33,20 @@ pub record Held (n : ℕ) (w : List ℕ) (o k : ℕ) : Type 0 where
   pub tree : Tree
   pub tab : Tab n w o k tree
 
--- the slice is long enough, and its numbers are within the limits
+-- the memory lasts to the end, and the numbers are within the limits
 pub record Sized (q : Size) (len : ℕ) : Type 0 where
+  pub mem : q .mem + 12 * q .wide ≤ len
+  pub few : q .wide ≤ maxNodes
+  pub marks : q .n ≤ maxMarks
+
+-- a table may be made at d: there is place for it below the memory, which lasts to the end
+pub record Lies (q : Size) (len d : ℕ) : Type 0 where
+  pub below : d + stride * q .wide ≤ q .mem
   pub mem : q .mem + 12 * q .wide ≤ len
   pub room : q .room ≤ q .wide
   pub some : minRoom ≤ q .room
   pub few : q .wide ≤ maxNodes
   pub marks : q .n ≤ maxMarks
-
--- a table may be made at d: there is place for it below the memory
-pub record Lies (q : Size) (len d : ℕ) : Type 0 where
-  pub below : d + stride * q .wide ≤ q .mem
-  pub size : Sized q len
 
 -- a held table below d, of no more nodes than a place has
 pub record Operand (q : Size) (w : List ℕ) (a k d : ℕ) : Type 0 where

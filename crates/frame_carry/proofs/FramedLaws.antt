@@ -259,16 +259,16 @@ module _ (q : Size) (w : List ℕ) (d a k : ℕ) (lies : Lies q (length w) d) (h
 
   pub placing : PlacingIn w P (wayOf q x v) (k - 1)
   placing =
-      let fits : q .mem + k ≤ length w = omega (arith, lies .size .mem, ha .few) in
+      let fits : q .mem + k ≤ length w = omega (arith, lies .mem, ha .few) in
       let out-size : length (outPart w P) ≡ q .mem - d = part-long d (q .mem) w (omega arith) in
       let memo-size : length (memoPart w P) ≡ k = part-long (q .mem) (q .mem + k) w fits ∙ (omega arith) in
       record {
         layout = record { table = ha .below; out = omega (arith, lies .below); end = fits };
         asks = record {
-          table = tab-sound (q .n) w a k (ha .held .tree) (ha .held .tab) (lies .size .marks) (omega (arith, ha .few, lies .size .few));
-          some = lies .size .some;
-          few = omega (arith, lies .size .room, lies .size .few);
-          long = omega (arith, out-size, lies .below, lies .size .room);
+          table = tab-sound (q .n) w a k (ha .held .tree) (ha .held .tab) (lies .marks) (omega (arith, ha .few, lies .few));
+          some = lies .some;
+          few = omega (arith, lies .room, lies .few);
+          long = omega (arith, out-size, lies .below, lies .room);
           wide = omega (arith, memo-size);
         };
       }
@@ -276,5 +276,5 @@ module _ (q : Size) (w : List ℕ) (d a k : ℕ) (lies : Lies q (length w) d) (h
   pub fixes : (w′ : List ℕ) → length w′ ≡ length w → (r : Made) → Left (q .n) (q .room) (along (wayOf q x v) (nodes k (tablePart w P))) (outPart w′ P) r → Turns (cofactor x v) q w w′ a k d r
   fixes w′ n r left f tf =
       let is : along (wayOf q x v) (nodes k (tablePart w P)) ≡ cofactor x v f = mapped-same (cofactor x v (meaning (q .n) (nodes k (tablePart w P)))) ∙ ap (cofactor x v) (tab-means (q .n) w a k f tf) in
-      left-gives q w′ d (q .mem) (cofactor x v f) (cofactor-deep (q .n) x v f (tf .deep)) (omega (arith, lies .below)) (omega (arith, lies .size .mem)) r
+      left-gives q w′ d (q .mem) (cofactor x v f) (cofactor-deep (q .n) x v f (tf .deep)) (omega (arith, lies .below)) (omega (arith, lies .mem)) r
       (subst (λ g. Left (q .n) (q .room) g (outPart w′ P) r) is left)

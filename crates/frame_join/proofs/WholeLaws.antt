@@ -22,7 +22,7 @@ use Rattle.frame.specs.declared.Size.{Size}
 use Rattle.frame.specs.declared.Made.{Made}
 use Rattle.frame.specs.declared.Made.the-variants.{Count, Over}
 use Rattle.frame.specs.Held.{part, Kept, Tab, Sized, Lies, Operand, Left, Gives, Turns, Joins}
-use Rattle.frame.proofs.Views.{part-front, part-back, part-long, front-less, tab-means, tab-sound, leaves-over, leaves-count, left-gives}
+use Rattle.frame.proofs.Views.{part-front, part-back, part-long, front-less, tab-means, tab-sound, sized-of, leaves-over, leaves-count, left-gives}
 use Rattle.frame_join.specs.declared.Place.{Place}
 use Rattle.frame_join.specs.Framed.{leftPart, rightPart, outPart, memoPart, Layout, JoiningIn, GivenIn}
 use Rattle.frame_join.proofs.FramedLaws.{layout-kept, out-long, memo-long, left-kept, right-kept}
@@ -135,16 +135,16 @@ module _ (q : Size) (w : List ℕ) (d a k b j : ℕ) (sized : Sized q (length w)
           slots = omega (arith, memo-size);
         }
 
-    pub given-in : 4 * j ≤ size → d + stride * q .wide ≤ q .mem → GivenIn w P J
-    given-in h below =
+    pub given-in : 4 * j ≤ size → Lies q (length w) d → GivenIn w P J
+    given-in h lies =
         let out-size : length (outPart w P) ≡ q .mem - d = part-long d (q .mem) w (omega (arith, fits)) in
         record {
-          layout = layout-in (omega arith);
+          layout = layout-in (omega (arith, lies .below));
           asks = record {
             operands = operands-in h;
-            some = sized .some;
-            few = omega (arith, sized .room, sized .few);
-            long = omega (arith, out-size, sized .room);
+            some = lies .some;
+            few = omega (arith, lies .room, lies .few);
+            long = omega (arith, out-size, lies .below, lies .room);
           };
         }
 
@@ -167,13 +167,13 @@ pub pair-gives : (q : Size) (w : List ℕ) (d a k b j : ℕ) (lies : Lies q (len
     Left (q .n) (q .room) (joinedBy (leftPart w P J) (rightPart w P J) J) (outPart w′ P) r → Joins (pointwise (opOf op)) q w w′ a k b j d r
 pair-gives q w d a k b j lies ha hb size op w′ n r left f g tf tg =
     subst (λ t. Gives q w′ d t r) (ap₂ (pointwise (opOf op)) (cofactor-none (q .n) (q .n) false f (tf .deep) (omega arith)) (cofactor-none (q .n) (q .n) false g (tg .deep) (omega arith)))
-    (gives-in q w d a k b j (lies .size) ha hb size op (q .n) false (q .n) false (lies .below) w′ n r left f g tf tg)
+    (gives-in q w d a k b j (sized-of q (length w) d lies) ha hb size op (q .n) false (q .n) false (lies .below) w′ n r left f g tf tg)
 
 -- one table, with the mark at 0 and at 1
 pub mark-gives : (q : Size) (w : List ℕ) (d a k : ℕ) (lies : Lies q (length w) d) (ha : Operand q w a k d) (size op x : ℕ) (w′ : List ℕ) → length w′ ≡ length w → (r : Made)
     → let J : Job = jobOf q op k x false k x true in let P : Place = placeOf q a a d size in
     Left (q .n) (q .room) (joinedBy (leftPart w P J) (rightPart w P J) J) (outPart w′ P) r → Turns (λ f. pointwise (opOf op) (cofactor x false f) (cofactor x true f)) q w w′ a k d r
-mark-gives q w d a k lies ha size op x w′ n r left f tf = gives-in q w d a k a k (lies .size) ha ha size op x false x true (lies .below) w′ n r left f f tf tf
+mark-gives q w d a k lies ha size op x w′ n r left f tf = gives-in q w d a k a k (sized-of q (length w) d lies) ha ha size op x false x true (lies .below) w′ n r left f f tf tf
 
 -- by the operation's truth table
 pub marked-by : (q : Size) (w w′ : List ℕ) (a k d op x : ℕ) (o : Bool → Bool → Bool) → opOf op ≡ o → (r : Made)

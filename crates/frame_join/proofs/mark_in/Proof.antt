@@ -1,3 +1,4 @@
+use Rattle.frame.proofs.Views.{sized-of}
 use Prim.Native.Nat.{_*_}
 use native.Mathlib.Omega.{arith}
 use Rattle.frame_join.proofs.WholeLaws.{given-in, mark-gives}
@@ -12,7 +13,7 @@ add-t15 : tie.Need-add-t15
 add-t15 c = search needs
 
 join-at-requires : tie.Need-join-at-requires
-join-at-requires c κs = let g = c .before .before .before in given-in _ _ _ _ _ _ _ (g .pre .0 .size) (g .pre .1) (g .pre .1) _ _ _ _ _ _ (omega (arith, g .pre .1 .few)) (omega arith) (g .pre .0 .below)
+join-at-requires c κs = let g = c .before .before .before in given-in _ _ _ _ _ _ _ (sized-of _ _ _ (g .pre .0)) (g .pre .1) (g .pre .1) _ _ _ _ _ _ (omega (arith, g .pre .1 .few)) (omega arith) (g .pre .0)
 
 same-length : tie.Need-same-length
 same-length c = search needs

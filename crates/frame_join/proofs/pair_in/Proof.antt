@@ -1,3 +1,4 @@
+use Rattle.frame.proofs.Views.{sized-of}
 use Prim.Native.Nat.{_+_, _*_}
 use native.Mathlib.Omega.{arith}
 use Rattle.frame_join.proofs.WholeLaws.{given-in, pair-gives}
@@ -15,7 +16,7 @@ add-t18 : tie.Need-add-t18
 add-t18 c = search needs
 
 join-at-requires : tie.Need-join-at-requires
-join-at-requires c κs = let g = c .before .before .before in given-in _ _ _ _ _ _ _ (g .pre .0 .size) (g .pre .1) (g .pre .2) _ _ _ _ _ _ (omega (arith, g .pre .1 .few, g .pre .2 .few)) (omega arith) (g .pre .0 .below)
+join-at-requires c κs = let g = c .before .before .before in given-in _ _ _ _ _ _ _ (sized-of _ _ _ (g .pre .0)) (g .pre .1) (g .pre .2) _ _ _ _ _ _ (omega (arith, g .pre .1 .few, g .pre .2 .few)) (omega arith) (g .pre .0)
 
 same-length : tie.Need-same-length
 same-length c = search needs
