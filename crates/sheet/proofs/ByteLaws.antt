@@ -1,12 +1,12 @@
 -- Reading a number byte by byte, the most significant first, and numbers one after another.
 use mathlib.Core.Path.{_≡_, refl, sym, ap, ap₂, _∙_}
 use mathlib.Core.List.{List, [], _∷_, _++_}
-use Prim.Native.Nat.{ℕ, zero, suc, _+_, _*_, _-_, _^_, _<_, _≤_}
+use Prim.Native.Nat.{ℕ, zero, suc, _+_, _*_, _-_, _/_, _%_, _^_, _<_, _≤_}
 use native.Mathlib.Omega.{arith}
 use native.Mathlib.Nat.{pow-le-pow-right}
-use lib.ListN.{length, getD, set, take, length-set, length-append}
-use lib.Seq.{take-suc-set}
-use Rattle.sheet.specs.Bytes.{leWord, leWords}
+use lib.ListN.{length, getD, set, take, drop, length-set, length-append}
+use lib.Seq.{take-suc-set, drop-cons}
+use Rattle.sheet.specs.Bytes.{leWord, leBytes, leWords}
 
 -- the bytes from place at + left to place at + width have been read
 pub record Reading (bytes : List ℕ) (at width left word : ℕ) : Type 0 where
@@ -74,3 +74,28 @@ length-words k (suc m) bytes i = omega (arith, length-append (leWords k m bytes 
 -- so many words are there
 pub taken-long : (k m : ℕ) (bytes : List ℕ) (i : ℕ) (out : List ℕ) → take m out ≡ leWords k m bytes i → m ≡ length (take m out)
 taken-long k m bytes i out e = sym (ap length e ∙ length-words k m bytes i)
+
+-- ---- there and back again
+word-tail : (k b : ℕ) (bytes : List ℕ) (i : ℕ) → leWord k (b ∷ bytes) (suc i) ≡ leWord k bytes i
+unfolding leWord
+word-tail zero b bytes i = refl
+word-tail (suc k) b bytes i =
+    let s : suc i + 1 ≡ suc (i + 1) = omega arith in
+    rw s (ap (λ r. getD bytes i 0 + 256 * r) (word-tail k b bytes (i + 1)))
+
+pub word-of-bytes : (k w : ℕ) → w < 256 ^ k → leWord k (leBytes k w) 0 ≡ w
+unfolding leWord leBytes
+word-of-bytes zero w h = omega arith
+word-of-bytes (suc k) w h =
+    let p : 256 ^ suc k ≡ 256 * 256 ^ k = omega arith in
+    rw (word-tail k (w % 256) (leBytes k (w / 256)) 0, word-of-bytes k (w / 256) (omega arith)) (omega arith)
+
+pub bytes-of-word : (k : ℕ) (bytes : List ℕ) (i : ℕ) → i + k ≤ length bytes → ((j : ℕ) → getD bytes j 0 < 256) → leBytes k (leWord k bytes i) ≡ take k (drop i bytes)
+unfolding leWord leBytes
+bytes-of-word zero bytes i h small = refl
+bytes-of-word (suc k) bytes i h small =
+    let b : getD bytes i 0 < 256 = small i in
+    let r : (getD bytes i 0 + 256 * leWord k bytes (i + 1)) % 256 ≡ getD bytes i 0 = omega arith in
+    let q : (getD bytes i 0 + 256 * leWord k bytes (i + 1)) / 256 ≡ leWord k bytes (i + 1) = omega arith in
+    let s : suc i ≡ i + 1 = omega arith in
+    rw (r, q, drop-cons bytes i 0 (omega arith), s, bytes-of-word k bytes (i + 1) (omega arith) small)

@@ -8,6 +8,7 @@ use lib.ListN.{length}
 use borrow.Author.Tests.{eq-eqb, ne-eqb, eqb-true, lt-ltb, le-ltb, ltb-false}
 use Rattle.table.proofs.InspectLaws.{or-false}
 use Rattle.sheet.specs.declared.Header.{Header}
+use Rattle.sheet.specs.Layout.{Whole, Placed}
 use Rattle.sheet.specs.Sheet.{headerBytes, decodeHeader, headless, misplaced}
 
 -- a test that is not met names the equation
@@ -37,20 +38,19 @@ module _ (each count offset other other-offset total : ℕ) where
       unfolding misplaced
       total-decides h = rw (eq-eqb offset 32 starts, eq-eqb other 0 none, eq-eqb other-offset 0 h)
 
-  -- a section in its place
-  pub record Placed : Type 0 where
-    pub offset-is : offset ≡ headerBytes
-    pub other-is : other ≡ 0
-    pub other-offset-is : other-offset ≡ 0
-    pub total-is : total ≡ headerBytes + each * count
-
-  pub placed : false ≡ misplaced each count offset other other-offset total → Placed
+  -- a section in its place, and the other way round
+  pub placed : false ≡ misplaced each count offset other other-offset total → Placed each count offset other other-offset total
   unfolding misplaced
   placed e =
       let a = or-false (not (eqb offset headerBytes) || not (eqb other 0) || not (eqb other-offset 0)) (not (eqb total (headerBytes + each * count))) e in
       let b = or-false (not (eqb offset headerBytes) || not (eqb other 0)) (not (eqb other-offset 0)) (a .0) in
       let d = or-false (not (eqb offset headerBytes)) (not (eqb other 0)) (b .0) in
       record { offset-is = not-eqb _ _ (d .0); other-is = not-eqb _ _ (d .1); other-offset-is = not-eqb _ _ (b .1); total-is = not-eqb _ _ (a .1) }
+
+  pub in-place : Placed each count offset other other-offset total → false ≡ misplaced each count offset other other-offset total
+  unfolding misplaced
+  in-place p =
+      rw (eq-eqb offset headerBytes (p .offset-is), eq-eqb other 0 (p .other-is), eq-eqb other-offset 0 (p .other-offset-is), eq-eqb total (headerBytes + each * count) (p .total-is))
 
 module _ (bytes : List ℕ) where
   pub too-few : length bytes < 32 → true ≡ headless bytes
@@ -66,15 +66,14 @@ module _ (bytes : List ℕ) where
     unfolding headless
     length-decides e = rw (ap (λ (x : Header). x .total) is, le-ltb (length bytes) 32 enough, eq-eqb ((decodeHeader bytes) .version) 1 (sym (ap (λ (x : Header). x .version) is) ∙ e))
 
-  -- a whole header
-  pub record Whole : Type 0 where
-    pub enough : headerBytes ≤ length bytes
-    pub version-is : (decodeHeader bytes) .version ≡ 1
-    pub total-is : (decodeHeader bytes) .total ≡ length bytes
-
-  pub whole : false ≡ headless bytes → Whole
+  -- a whole header, and the other way round
+  pub whole : false ≡ headless bytes → Whole bytes
   unfolding headless
   whole e =
       let a = or-false (ltb (length bytes) headerBytes || not (eqb ((decodeHeader bytes) .version) 1)) (not (eqb ((decodeHeader bytes) .total) (length bytes))) e in
       let b = or-false (ltb (length bytes) headerBytes) (not (eqb ((decodeHeader bytes) .version) 1)) (a .0) in
       record { enough = ltb-false _ _ (sym (b .0)); version-is = not-eqb _ _ (b .1); total-is = not-eqb _ _ (a .1) }
+
+  pub has-header : Whole bytes → false ≡ headless bytes
+  unfolding headless
+  has-header w = rw (le-ltb (length bytes) headerBytes (w .enough), eq-eqb ((decodeHeader bytes) .version) 1 (w .version-is), eq-eqb ((decodeHeader bytes) .total) (length bytes) (w .total-is))

@@ -1,3 +1,4 @@
 pub mod ByteLaws
 pub mod HeaderLaws
 pub mod SheetLaws
+pub mod Reading

@@ -48,7 +48,7 @@ written v r vs list table clauses clauses′ nodes nodes′ e s a b = rw e (reco
 
 -- ---- the verdict by kind
 -- the verdict, of a header that is read
-abbrev readsWith : Header → List ℕ → List ℕ → List ℕ → Verdict
+abbrev pub readsWith : Header → List ℕ → List ℕ → List ℕ → Verdict
 readsWith h bytes clauses nodes = cond (headless bytes) (refused SHEET 0) (judged (kindFindings h bytes nodes) (givesSection h bytes clauses))
 
 module _ (bytes clauses nodes : List ℕ) where
@@ -57,7 +57,7 @@ module _ (bytes clauses nodes : List ℕ) where
   sheet-first true fs v = refl
   sheet-first false fs v = refl
 
-  reads-with : (h : Header) → h ≡ decodeHeader bytes → readsSheet bytes clauses nodes ≡ readsWith h bytes clauses nodes
+  pub reads-with : (h : Header) → h ≡ decodeHeader bytes → readsSheet bytes clauses nodes ≡ readsWith h bytes clauses nodes
   unfolding readsSheet
   reads-with h e = sheet-first (headless bytes) (kindFindings (decodeHeader bytes) bytes nodes) _ ∙ ap (λ (x : Header). readsWith x bytes clauses nodes) (sym e)
 
