@@ -1,23 +1,31 @@
 //! What the tests share: the proved library's calls, the specification read a second time, the oracle's answers in words, and the comparison.
 pub mod answer;
+pub mod building;
 pub mod convert;
 pub mod copies;
 pub mod corpus;
 pub mod expected;
+pub mod expected_builders;
 pub mod expected_operators;
 pub mod lent;
+pub mod lists;
 pub mod names;
 pub mod operation;
 pub mod proved;
+pub mod proved_builders;
 pub mod proved_operators;
 pub mod proved_valuations;
 pub mod random;
 pub mod reading;
+pub mod reading_builders;
 pub mod reading_operators;
+pub mod run;
 pub mod sample;
 pub mod spoiled;
+pub mod spoiled_builds;
 pub mod tally;
 pub mod truth;
+pub mod wrong;
 
 use std::path::PathBuf;
 

@@ -42,7 +42,7 @@ impl Owned {
             0 => self.call.n = spoiled_n(random, self.call.n),
             1 => left_or_right.0 = spoiled_count(random, left_or_right.0),
             2 => cut(random, &mut left_or_right.1),
-            3 => self.call.space = spoiled_space(random, &self.call()),
+            3 => self.call.space = spoiled_space(random, self.call.space),
             4 => self.call.mark = spoiled_mark(random, self.call.n),
             5 => self.call.space.room = spoiled_room(random),
             _ => damage_words(random, &mut left_or_right.1),
@@ -50,7 +50,7 @@ impl Owned {
     }
 }
 
-fn spoiled_n(random: &mut Random, n: u16) -> u16 {
+pub fn spoiled_n(random: &mut Random, n: u16) -> u16 {
     random.pick(&[61, 62, 64, 255, 256, 65_535, n.saturating_add(1), n.saturating_sub(1), n | 256])
 }
 
@@ -61,7 +61,7 @@ fn spoiled_count(random: &mut Random, count: usize) -> usize {
     }
 }
 
-fn spoiled_room(random: &mut Random) -> usize {
+pub fn spoiled_room(random: &mut Random) -> usize {
     match random.coin() {
         true => random.pick(&[0, 1, 2]),
         false => random.pick(&OUTSIDE),
@@ -79,8 +79,8 @@ fn cut(random: &mut Random, words: &mut Vec<u32>) {
 }
 
 /// Output or work too short by a word, by some, or with none at all.
-fn spoiled_space(random: &mut Random, call: &Operation) -> Space {
-    let Space { room, out, work } = call.space;
+pub fn spoiled_space(random: &mut Random, space: Space) -> Space {
+    let Space { room, out, work } = space;
     let shorter = |random: &mut Random, needed: usize| match random.below(3) {
         0 => needed.saturating_sub(1),
         1 => random.below(needed + 1),

@@ -65,6 +65,19 @@ pub const OPERATORS: [Entry; 9] = [
     entry("exact_cardinality", MEASURING, &[0, 1, (1 << 60) - 1, 1 << 60]),
 ];
 
+/// The builders; the sample does not show them.
+pub const BUILDERS: [Entry; 4] = [
+    entry("mk_dnf", &[LIMIT, SHORT, CLAUSE, NODES], SIZES),
+    entry("mk_cnf", &[LIMIT, SHORT, CLAUSE, NODES], SIZES),
+    entry("mk_dnf_valuation", &[LIMIT, SHORT, VARIABLE, NODES], SIZES),
+    entry("mk_cnf_valuation", &[LIMIT, SHORT, VARIABLE, NODES], SIZES),
+];
+
+/// Every entry that a run may call, family by family.
+pub fn families() -> impl Iterator<Item = &'static [Entry]> {
+    [&ENTRIES[..], &OPERATORS, &BUILDERS].into_iter()
+}
+
 /// How many first values of an entry are remembered.
 const REMEMBERED: usize = 5000;
 
@@ -193,7 +206,7 @@ impl Tally {
             return Err(format!("{} calls were made, at least {least} are wanted", self.calls()));
         }
         for (name, count) in &self.entries {
-            let entry = ENTRIES.iter().chain(&OPERATORS).find(|entry| entry.name == *name).ok_or(format!("{name} is no entry"))?;
+            let entry = families().flatten().find(|entry| entry.name == *name).ok_or(format!("{name} is no entry"))?;
             count.complete(entry).map_err(|what| format!("{name} {what}"))?;
         }
         Ok(())
