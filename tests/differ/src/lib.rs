@@ -24,6 +24,7 @@ pub mod sample;
 pub mod spoiled;
 pub mod spoiled_builds;
 pub mod tally;
+pub mod timing;
 pub mod truth;
 pub mod wrong;
 

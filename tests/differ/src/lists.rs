@@ -36,6 +36,18 @@ pub fn boxes(random: &mut Random, n: u16, many: usize, free: u16) -> Vec<Valuati
     cells
 }
 
+/// Clauses of exactly so many literals, which lie within a window.
+pub fn rules(random: &mut Random, n: u16, many: usize, literals: u32, window: u16) -> Vec<Valuation> {
+    let rule = |random: &mut Random| {
+        let (first, mut fixed) = (random.below(usize::from(n - window) + 1), 0u64);
+        while fixed.count_ones() < literals {
+            fixed |= 1 << (first + random.below(usize::from(window)));
+        }
+        Valuation { fixed, values: random.word() & fixed }
+    };
+    (0..many).map(|_| rule(random)).collect()
+}
+
 /// A clause for each odd choice of these marks: together, as a DNF, their parity; as a CNF, its complement or itself.
 pub fn parity(marks: &[u16]) -> Vec<Valuation> {
     let chosen = |choice: u64| marks.iter().enumerate().fold(0, |word, (k, mark)| word | (choice >> k & 1) << mark);
