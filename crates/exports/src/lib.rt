@@ -1,5 +1,6 @@
 // The public entries for C and Rust: numbers and slices in, the reply into a lent buffer.
 // Each call returns 1; where the reply's buffer has under 64 words it returns 0 and touches nothing.
+use cover::Covered;
 use making::Made;
 use refusal::Counted;
 use refusal::Refusal;
@@ -32,6 +33,7 @@ ghost use Rattle.valuation.specs.Valuation.{saysClause, asksEmpty, countsFixed,
 ghost use Rattle.making.specs.Made.{madeReply};
 ghost use Rattle.operators.specs.Operators.{makesAnd, makesOr, makesAndNot, makesForAll, makesExists};
 ghost use Rattle.builders.specs.Builders.{makesDnf, makesCnf, makesDnfValuation, makesCnfValuation};
+ghost use Rattle.cover.specs.Cover.{coveredReply, checksCover};
 ghost use Rattle.unary.specs.Unary.{marksReply, negates, restricts, supports, countsCases};
 ghost use Rattle.exports.specs.Exports.{Exported, ExportedWork, replyLength, replyWords, accepted, bufferWith, replyAfter, writtenWords};
 
@@ -160,6 +162,16 @@ fn last_fixed_written(last: LastFixed) -> Written
         LastFixed::Variable(variable) => pair_written(1, variable.0 as u64),
         LastFixed::Nothing => value_written(0),
         LastFixed::Refused(r) => refusal_written(r),
+    }
+}
+
+fn covered_written(covered: Covered) -> Written
+    ensures { λ w. ⌜ writtenWords w ≡ padded (replyWords (coveredReply covered)) 5 ⌝ }
+{
+    match covered {
+        Covered::Agrees => value_written(0),
+        Covered::Differs(case) => pair_written(1, case),
+        Covered::Refused(r) => refusal_written(r),
     }
 }
 
@@ -615,4 +627,24 @@ pub extern "C" fn collartug_mk_cnf_valuation(
     }
     let made = builders::mk_cnf_valuation(n, count, cases, room, out, work);
     write_reply(reply, made_written(made))
+}
+
+#[no_mangle]
+pub extern "C" fn collartug_check_cover(
+    n: u16,
+    count: usize,
+    bdd: &[u32],
+    clause_count: usize,
+    clauses: &[u64],
+    room: usize,
+    work: &mut [u32],
+    reply: &mut [u64],
+) -> u64
+    ensures { λ r. ⌜ ExportedWork (checksCover n count (now (bdd .entry)) «clause_count» (now (clauses .entry)) room (now (work .entry))) r (now (work .entry)) (now (work .exit)) (now (reply .entry)) (now (reply .exit)) ⌝ }
+{
+    if reply.len() < REPLY_WORDS {
+        return 0;
+    }
+    let covered = cover::check_cover(n, count, bdd, clause_count, clauses, room, work);
+    write_reply(reply, covered_written(covered))
 }

@@ -1,0 +1,5 @@
+pub mod FirstLaws
+pub mod DescentLaws
+pub mod AdmitLaws
+pub mod CompareLaws
+pub mod CoverLaws

@@ -1,0 +1,4 @@
+pub mod ListedLaws
+pub mod StoreLaws
+pub mod CountLaws
+pub mod ListLaws
