@@ -56,6 +56,20 @@ impl Room {
         })
     }
 
+    /// Makes a call that lends a clause output, work and the reply.
+    pub(crate) fn call_listing(
+        self,
+        out: usize,
+        work: usize,
+        call: impl FnOnce(Writable<u64>, Writable<u32>, Writable<u64>) -> u64,
+    ) -> Outcome {
+        let wide = Buffer::Wide(Lent::new(out, self.salt ^ 1 << 60));
+        self.call_lending(vec![wide, self.narrow(work, 2)], |lent, reply, len| {
+            let (out, work) = (lent[0].wide(), lent[1].narrow());
+            call(out, work, (reply, len))
+        })
+    }
+
     /// Each lent buffer has rubbish of its own.
     fn narrow(self, len: usize, which: u64) -> Buffer {
         Buffer::Narrow(Lent::new(len, self.salt ^ which << 60))

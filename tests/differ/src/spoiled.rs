@@ -54,7 +54,7 @@ pub fn spoiled_n(random: &mut Random, n: u16) -> u16 {
     random.pick(&[61, 62, 64, 255, 256, 65_535, n.saturating_add(1), n.saturating_sub(1), n | 256])
 }
 
-fn spoiled_count(random: &mut Random, count: usize) -> usize {
+pub fn spoiled_count(random: &mut Random, count: usize) -> usize {
     match random.coin() {
         true => random.pick(&[count.saturating_add(1), count.saturating_add(2), count.saturating_sub(1), 1, 2]),
         false => random.pick(&OUTSIDE),
@@ -73,19 +73,23 @@ fn spoiled_mark(random: &mut Random, n: u16) -> u16 {
     random.pick(&[n, n.saturating_add(1), 59, 60, 61, 255, 256, 32_768, 65_535])
 }
 
-fn cut(random: &mut Random, words: &mut Vec<u32>) {
+pub fn cut<T>(random: &mut Random, words: &mut Vec<T>) {
     let short_by = if random.coin() { 1 } else { 1 + random.below(words.len() + 1) };
     words.truncate(words.len().saturating_sub(short_by));
 }
 
-/// Output or work too short by a word, by some, or with none at all.
-pub fn spoiled_space(random: &mut Random, space: Space) -> Space {
-    let Space { room, out, work } = space;
-    let shorter = |random: &mut Random, needed: usize| match random.below(3) {
+/// Short of what is needed by a word, by some, or by all.
+pub fn shorter(random: &mut Random, needed: usize) -> usize {
+    match random.below(3) {
         0 => needed.saturating_sub(1),
         1 => random.below(needed + 1),
         _ => 0,
-    };
+    }
+}
+
+/// Output or work too short.
+pub fn spoiled_space(random: &mut Random, space: Space) -> Space {
+    let Space { room, out, work } = space;
     if random.coin() {
         Space { room, out: shorter(random, out.min(room.saturating_mul(3))), work }
     } else {
@@ -93,7 +97,7 @@ pub fn spoiled_space(random: &mut Random, space: Space) -> Space {
     }
 }
 
-fn damage_words(random: &mut Random, words: &mut [u32]) {
+pub fn damage_words(random: &mut Random, words: &mut [u32]) {
     for _ in 0..if words.is_empty() { 0 } else { 1 + random.below(2) } {
         let at = random.below(words.len());
         words[at] = damage(random, words, at);

@@ -1,7 +1,7 @@
 //! Calls of builders that own their lists, so that any part of them can be spoiled.
 use crate::building::Build;
 use crate::random::Random;
-use crate::spoiled::{spoiled_n, spoiled_room, spoiled_space};
+use crate::spoiled::{cut, spoiled_n, spoiled_room, spoiled_space};
 
 /// Counts over the limit; of some, a multiple is a small number again once it is cut to a word.
 const OUTSIDE: [usize; 9] = [1025, 1026, 65_536, 65_538, 1 << 32, (1 << 32) + 3, usize::MAX / 2 + 2, 1 << 63, usize::MAX];
@@ -33,29 +33,24 @@ impl OwnedBuild {
         let call = &mut self.call;
         match random.below(8) {
             0 => call.n = spoiled_n(random, call.n),
-            1 => call.count = spoiled_count(random, call.count),
+            1 => call.count = spoiled_list_count(random, call.count),
             2 => cut(random, &mut self.list),
             3 => call.space = spoiled_space(random, call.space),
             4 => call.space.room = spoiled_room(random),
-            _ => damage_words(random, call.n, &mut self.list),
+            _ => damage_list(random, call.n, &mut self.list),
         }
     }
 }
 
-pub fn spoiled_count(random: &mut Random, count: usize) -> usize {
+pub fn spoiled_list_count(random: &mut Random, count: usize) -> usize {
     match random.coin() {
         true => random.pick(&[count.saturating_add(1), count.saturating_add(2), count.saturating_sub(1), 0, 1]),
         false => random.pick(&OUTSIDE),
     }
 }
 
-pub fn cut(random: &mut Random, list: &mut Vec<u64>) {
-    let short_by = if random.coin() { 1 } else { 1 + random.below(list.len() + 1) };
-    list.truncate(list.len().saturating_sub(short_by));
-}
-
 /// A bit turned over, a bit from n up set, or another word altogether, in one place or two.
-pub fn damage_words(random: &mut Random, n: u16, list: &mut [u64]) {
+pub fn damage_list(random: &mut Random, n: u16, list: &mut [u64]) {
     for _ in 0..if list.is_empty() { 0 } else { 1 + random.below(2) } {
         let at = random.below(list.len());
         let outside = 1 << (usize::from(n.min(63)) + random.below(64 - usize::from(n.min(63))));

@@ -1,5 +1,5 @@
 //! Counts the calls of each entry and its refusals, and objects where a refusal that an entry can give was never seen.
-use crate::answer::{compare, Answer, Outcome, CLAUSE, LEAST_REPLY, LIMIT, NODES, SHORT, TABLE, VARIABLE};
+use crate::answer::{compare, Answer, Outcome, CLAUSE, CLAUSES, LEAST_REPLY, LIMIT, NODES, SHORT, TABLE, VARIABLE};
 use crate::proved::Room;
 use std::collections::{BTreeMap, BTreeSet};
 
@@ -73,9 +73,18 @@ pub const BUILDERS: [Entry; 4] = [
     entry("mk_cnf_valuation", &[LIMIT, SHORT, VARIABLE, NODES], SIZES),
 ];
 
+/// The cover check; the sample does not show it.
+pub const COVER: [Entry; 1] = [entry("check_cover", &[LIMIT, SHORT, CLAUSE, TABLE, NODES], EITHER)];
+
+/// The extractors; the sample does not show them.
+pub const EXTRACTORS: [Entry; 2] = [
+    entry("to_dnf", &[LIMIT, SHORT, TABLE, CLAUSES], &[0, 1, 2, 1024]),
+    entry("to_cnf", &[LIMIT, SHORT, TABLE, CLAUSES], &[0, 1, 2, 1024]),
+];
+
 /// Every entry that a run may call, family by family.
 pub fn families() -> impl Iterator<Item = &'static [Entry]> {
-    [&ENTRIES[..], &OPERATORS, &BUILDERS].into_iter()
+    [&ENTRIES[..], &OPERATORS, &BUILDERS, &COVER, &EXTRACTORS].into_iter()
 }
 
 /// How many first values of an entry are remembered.

@@ -2,7 +2,7 @@
 use biodivine_lib_bdd::Bdd;
 use differ::answer::{compare, compare_unserved, Answer, LEAST_REPLY, LIMIT, NODES, SHORT, TABLE, VARIABLE};
 use differ::convert::as_made;
-use differ::copies::unreduced_copy;
+use differ::copies::{forms, unreduced_copy};
 use differ::corpus::{built, unreduced, windowed, Built, Meaning, Sum, MOST_NODES};
 use differ::expected_operators::{found, found_for};
 use differ::operation::{Operation, Operator, Space, Table};
@@ -137,12 +137,7 @@ struct Operand {
 
 impl Operand {
     fn new(random: &mut Random, built: Built) -> Operand {
-        let [as_made, renumbered] = built.tables();
-        let spare = MOST_NODES - built.bdd.size().max(2);
-        let mut copy = |from: &[u32], extra: usize| unreduced_copy(random, from, extra.min(spare));
-        let few = copy(&as_made, 4);
-        let many = copy(&renumbered, renumbered.len());
-        Operand { n: built.n, forms: vec![as_made, renumbered, few, many], bdd: built.bdd, meaning: built.meaning }
+        Operand { n: built.n, forms: forms(random, &built.bdd), bdd: built.bdd, meaning: built.meaning }
     }
 
     fn form(&self, random: &mut Random) -> &[u32] {

@@ -177,7 +177,7 @@ fn run_of(entries: &[Entry], calls: u64, refused: u64, large: u64) -> Run {
 /// A run with all kinds of answers and enough calls still needs its shares, and every entry.
 #[test]
 fn missing_shares_are_objected_to() {
-    for entries in families() {
+    for entries in families().filter(|entries| entries.len() > 1) {
         let many = entries.len() as u64;
         let shares = Shares { calls: 10_000, large: 200, refused: 1000, entries: many };
         assert_eq!(run_of(entries, 10_000, 1000, 200).enough(shares), Ok(()));
