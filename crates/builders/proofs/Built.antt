@@ -110,7 +110,7 @@ module _ (fs : List Finding) (b : Bool) (n count : ℕ) (entry : ℕ → Clause)
   abbrev fits : ℕ → Bool
   fits k = not (ltb room (length (canon n (runMeans b n entry k))))
 
-  build-is : Clean (judged fs) → builds fs b n count entry room ≡ cond (ltb shortest (suc count)) (refused NODES shortest) (tableAnswer (canon n (runMeans b n entry count)))
+  pub build-is : Clean (judged fs) → builds fs b n count entry room ≡ cond (ltb shortest (suc count)) (refused NODES shortest) (tableAnswer (canon n (runMeans b n entry count)))
   unfolding makes judged tried order firstOf
   build-is clean = clean _
 
@@ -128,7 +128,7 @@ module _ (fs : List Finding) (b : Bool) (n count : ℕ) (entry : ℕ → Clause)
 
   module _ (clean : Clean (judged fs)) where
     -- past inspection, refused for nodes: that run has no table within room, and every shorter run has one
-    refused-none : (place : ℕ) → builds fs b n count entry room ≡ refused NODES place → (place ≤ count) × NoRoom n room (runSays place) × ((k : ℕ) → k < place → NoRoom n room (runSays k) → ⊥)
+    pub refused-none : (place : ℕ) → builds fs b n count entry room ≡ refused NODES place → (place ≤ count) × NoRoom n room (runSays place) × ((k : ℕ) → k < place → NoRoom n room (runSays k) → ⊥)
     refused-none place e =
         let d : (ltb shortest (suc count) ≡ true) × (shortest ≡ place) = nodes-refused _ _ _ _ place (build-is clean) e in
         let within : shortest < suc count = ltb-true shortest (suc count) (d .0) in
@@ -144,7 +144,7 @@ module _ (fs : List Finding) (b : Bool) (n count : ℕ) (entry : ℕ → Clause)
         fit-at k h over = not-true (ltb room (length (canon n (runMeans b n entry k)))) (unfold shortestOver in first-before fits (suc count) k h) (lt-ltb _ _ over)
 
     -- past inspection, where some opening run has no table within room, the build is refused for nodes
-    none-refused : (k : ℕ) → k ≤ count → NoRoom n room (runSays k) → builds fs b n count entry room ≡ refused NODES shortest
+    pub none-refused : (k : ℕ) → k ≤ count → NoRoom n room (runSays k) → builds fs b n count entry room ≡ refused NODES shortest
     none-refused k h no-room =
         let within : shortest < suc count = before (none-over n (runSays k) room no-room) in
         build-is clean ∙ ap (λ o. cond o (refused NODES shortest) (tableAnswer (canon n (runMeans b n entry count)))) (lt-ltb shortest (suc count) within)

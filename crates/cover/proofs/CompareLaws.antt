@@ -11,9 +11,9 @@ use borrow.Author.Tests.{eq-eqb, ne-eqb}
 use Rattle.theory.specs.Tree.{Tree, Deep, sameTree, mapped, cofactor}
 use Rattle.theory.specs.Table.{Node, node, Table, at, treeOf, meaning, walk, constants, cut, canon, Good}
 use Rattle.theory.specs.Words.{stride, nodeAt, nodes}
-use Rattle.theory.proofs.Step.{Stands, treeOf-append}
+use Rattle.theory.proofs.Step.{treeOf-append}
 use Rattle.theory.proofs.Find.{node-eq}
-use Rattle.theory.proofs.Walk.{Walked, sound, stands-old}
+use Rattle.theory.proofs.Walk.{Walked, sound}
 use Rattle.theory.proofs.Canon.{Canonical, canonical, canon-ordered}
 use Rattle.theory.proofs.Small.{treeOf-deep}
 use Rattle.theory.proofs.Words.{length-nodes, at-nodes}

@@ -1,8 +1,8 @@
 -- The list built, and the two equations of the check.
 use mathlib.Core.Path.{_≡_, refl, sym, ap, subst, _∙_}
 use mathlib.Core.Bool.{Bool, true, false, cond}
-use mathlib.Core.List.{List, [], _∷_}
-use Prim.Native.Nat.{ℕ, suc, _+_, _*_, _≤_, max}
+use mathlib.Core.List.{List, []}
+use Prim.Native.Nat.{ℕ, suc, _*_, _≤_}
 use native.Mathlib.Omega.{arith}
 use lib.Dec.{ltb}
 use lib.ListN.{length, take}
@@ -31,7 +31,7 @@ use Rattle.build.specs.Build.{Copied, Building, Builds, Counted}
 use Rattle.builders.specs.Builders.{runMeans, shortestOver}
 use Rattle.builders.proofs.BuilderLaws.{leaves}
 use Rattle.cover.specs.declared.Covered.{Covered}
-use Rattle.cover.specs.Cover.{coveredReply, coverFindings, firstDiffering, coverAnswer, covers, checksCover}
+use Rattle.cover.specs.Cover.{coveredReply, coverFindings, firstDiffering, agreement, difference, coverAnswer, covers, checksCover}
 use Rattle.cover.specs.Compare.{Comparing, Covering}
 use Rattle.cover.proofs.AdmitLaws.{cover-quiet, cover-covering}
 
@@ -120,7 +120,7 @@ module _ (n count : ℕ) (words : List ℕ) (root clauses : ℕ) (list : List �
 zeroes : (over : Bool) (place : ℕ) (t u : Tree) (work : List ℕ) → workAfter (cond over (refused NODES place) (coverAnswer t u)) work ≡ padded [] (length work)
 unfolding coverAnswer bufferAfter zeroing
 zeroes true place t u work = refl
-zeroes false place t u work = elim (sameTree t u) as (λ b. workAfter (cond b (answered (0 ∷ []) []) (answered (1 ∷ firstDiffering t u ∷ []) [])) work ≡ padded [] (length work)) [
+zeroes false place t u work = elim (sameTree t u) as (λ b. workAfter (cond b agreement (difference (firstDiffering t u))) work ≡ padded [] (length work)) [
   | true ↦ refl
   | false ↦ refl
 ]

@@ -1,5 +1,5 @@
 -- Two nodes of a good table, descended together.
-use mathlib.Core.Path.{_≡_, refl, sym, ap, ap₂, subst, _∙_}
+use mathlib.Core.Path.{_≡_, refl, sym, ap, ap₂, _∙_}
 use mathlib.Core.Bool.{Bool, true, false, cond}
 use mathlib.Core.List.{List}
 use Prim.Native.Nat.{ℕ, zero, suc, _+_, _*_, _-_, _/_, _%_, _^_, _<_, _≤_}
@@ -7,12 +7,11 @@ use native.Mathlib.Omega.{arith}
 use native.Mathlib.Decide.{ℕ-discrete}
 use native.Mathlib.Numerals.{add-one}
 use lib.Dec.{eqb}
-use lib.ListN.{length}
 use borrow.Author.Tests.{eq-eqb, ne-eqb}
 use Rattle.theory.specs.Mask.{setBit}
-use Rattle.theory.specs.Tree.{Tree, fork, sameTree}
-use Rattle.theory.specs.Table.{Node, Table, at, childOf, step, treeOf, Good}
-use Rattle.theory.specs.Words.{stride, nodeAt, nodes}
+use Rattle.theory.specs.Tree.{sameTree}
+use Rattle.theory.specs.Table.{Node, Table, childOf, step, treeOf, Good}
+use Rattle.theory.specs.Words.{nodeAt, nodes}
 use Rattle.theory.proofs.Step.{Stands, stands-step}
 use Rattle.theory.proofs.Walk.{alone}
 use Rattle.theory.proofs.Words.{length-nodes, at-nodes}

@@ -9,11 +9,11 @@ use Rattle.theory.proofs.Cases.{odd-even, odd-odd, half-even, half-odd, look-ev
 use Rattle.theory.proofs.Support.{same-equal}
 use Rattle.cover.specs.Cover.{earlier, firstDiffering}
 
--- c is a case that t and u tell apart, and they agree on every case before it
-pub record First (k : ℕ) (t u : Tree) (c : ℕ) : Type 0 where
+-- c is a case of k marks of which f and g say different things, and they say the same of every case before it
+pub record First (k : ℕ) (f g : ℕ → Bool) (c : ℕ) : Type 0 where
   pub small : c < 2 ^ k
-  pub differ : look t c ≢ look u c
-  pub before : (d : ℕ) → d < 2 ^ k → earlier k d c ≡ true → look t d ≡ look u d
+  pub differ : f c ≢ g c
+  pub before : (d : ℕ) → d < 2 ^ k → earlier k d c ≡ true → f d ≡ g d
 
 -- ---- the order, by the bit of the first mark
 module _ (k c d : ℕ) where
@@ -56,12 +56,12 @@ told (suc k) c d h i =
     high c d (inr (inr e)) = inr (inr (earlier-high k d c ∙ e))
 
 -- so there is one first case at most
-pub first-one : (k : ℕ) (t u : Tree) (c d : ℕ) → First k t u c → First k t u d → c ≡ d
-first-one k t u c d f g = elim (told k c d (f .small) (g .small)) [
+pub first-one : (k : ℕ) (f g : ℕ → Bool) (c d : ℕ) → First k f g c → First k f g d → c ≡ d
+first-one k f g c d a b = elim (told k c d (a .small) (b .small)) [
   | inl e ↦ e
   | inr e ↦ elim e [
-    | inl h ↦ absurd (f .differ (g .before c (f .small) h))
-    | inr h ↦ absurd (g .differ (f .before d (g .small) h))
+    | inl h ↦ absurd (a .differ (b .before c (a .small) h))
+    | inr h ↦ absurd (b .differ (a .before d (b .small) h))
   ]
 ]
 
@@ -70,7 +70,7 @@ clash : true ≡ false → ⊥
 clash e = let z : _≡_ {A = ℕ} 1 0 = ap (λ b. cond b 1 0) e in omega arith
 
 module _ (k : ℕ) (lo hi lo′ hi′ : Tree) where
-  go-low : (c : ℕ) → First k lo lo′ c → First (suc k) (fork lo hi) (fork lo′ hi′) (2 * c)
+  go-low : (c : ℕ) → First k (look lo) (look lo′) c → First (suc k) (look (fork lo hi)) (look (fork lo′ hi′)) (2 * c)
   go-low c f = record {
     small = omega (arith, f .small);
     differ = λ e. f .differ (sym (look-even lo hi c) ∙ e ∙ look-even lo′ hi′ c);
@@ -80,7 +80,7 @@ module _ (k : ℕ) (lo hi lo′ hi′ : Tree) where
         (λ d h e. absurd (clash (sym e ∙ earlier-down k d c)));
   }
 
-  go-high : lo ≡ lo′ → (c : ℕ) → First k hi hi′ c → First (suc k) (fork lo hi) (fork lo′ hi′) (2 * c + 1)
+  go-high : lo ≡ lo′ → (c : ℕ) → First k (look hi) (look hi′) c → First (suc k) (look (fork lo hi)) (look (fork lo′ hi′)) (2 * c + 1)
   go-high same c f = record {
     small = omega (arith, f .small);
     differ = λ e. f .differ (sym (look-odd lo hi c) ∙ e ∙ look-odd lo′ hi′ c);
@@ -90,7 +90,7 @@ module _ (k : ℕ) (lo hi lo′ hi′ : Tree) where
         (λ d h e. look-odd lo hi d ∙ f .before d (omega arith) (sym (earlier-high k d c) ∙ e) ∙ sym (look-odd lo′ hi′ d));
   }
 
-leaf-first : (a b : Bool) → Bool·beq a b ≡ false → First 0 (leaf a) (leaf b) 0
+leaf-first : (a b : Bool) → Bool·beq a b ≡ false → First 0 (look (leaf a)) (look (leaf b)) 0
 unfolding look earlier
 leaf-first a b e = record { small = omega arith; differ = differ a b e; before = λ d h z. absurd (clash (sym z)) }
   where
@@ -101,7 +101,7 @@ leaf-first a b e = record { small = omega arith; differ = differ a b e; before =
     differ false false e d = clash e
 
 -- functions that are not the same are first told apart there
-pub first-is : (k : ℕ) (t u : Tree) → Deep k t → Deep k u → sameTree t u ≡ false → First k t u (firstDiffering t u)
+pub first-is : (k : ℕ) (t u : Tree) → Deep k t → Deep k u → sameTree t u ≡ false → First k (look t) (look u) (firstDiffering t u)
 unfolding sameTree firstDiffering
 first-is zero (leaf a) (leaf b) d d′ e = leaf-first a b e
 first-is zero (leaf a) (fork lo hi) d d′ e = absurd d′
@@ -109,7 +109,15 @@ first-is zero (fork lo hi) u d d′ e = absurd d
 first-is (suc k) (leaf a) u d d′ e = absurd d
 first-is (suc k) (fork lo hi) (leaf b) d d′ e = absurd d′
 first-is (suc k) (fork lo hi) (fork lo′ hi′) d d′ e =
-    (elim (sameTree lo lo′) as (λ v. sameTree lo lo′ ≡ v → v && sameTree hi hi′ ≡ false → First (suc k) (fork lo hi) (fork lo′ hi′) (cond v (2 * firstDiffering hi hi′ + 1) (2 * firstDiffering lo lo′))) [
+    (elim (sameTree lo lo′) as (λ v. sameTree lo lo′ ≡ v → v && sameTree hi hi′ ≡ false → First (suc k) (look (fork lo hi)) (look (fork lo′ hi′)) (cond v (2 * firstDiffering hi hi′ + 1) (2 * firstDiffering lo lo′))) [
       | true ↦ λ l h. go-high k lo hi lo′ hi′ (same-equal lo lo′ l) (firstDiffering hi hi′) (first-is k hi hi′ (d .1) (d′ .1) h)
       | false ↦ λ l h. go-low k lo hi lo′ hi′ (firstDiffering lo lo′) (first-is k lo lo′ (d .0) (d′ .0) l)
     ]) refl e
+
+-- functions that say the same of every case
+pub first-same : (k : ℕ) (f g f′ g′ : ℕ → Bool) → ((c : ℕ) → c < 2 ^ k → f c ≡ f′ c) → ((c : ℕ) → c < 2 ^ k → g c ≡ g′ c) → (c : ℕ) → First k f g c → First k f′ g′ c
+first-same k f g f′ g′ a b c h = record {
+  small = h .small;
+  differ = λ e. h .differ (a c (h .small) ∙ e ∙ sym (b c (h .small)));
+  before = λ d l e. sym (a d l) ∙ h .before d l e ∙ b d l;
+}

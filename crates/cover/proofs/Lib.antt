@@ -3,3 +3,4 @@ pub mod DescentLaws
 pub mod AdmitLaws
 pub mod CompareLaws
 pub mod CoverLaws
+pub mod Checked

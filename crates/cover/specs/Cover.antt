@@ -17,7 +17,7 @@ use Rattle.builders.specs.Builders.{overList, shortList, firstBadEntry, runMean
 use Rattle.cover.specs.declared.Covered.{Covered}
 use Rattle.cover.specs.declared.Covered.the-variants.{Agrees, Differs, Refused}
 
--- agreement is 0; a difference is 1 and the case
+-- the reply of agreement is 0, of a difference 1 and the case
 unfoldable pub coveredReply : Covered → Reply
 coveredReply Agrees = gives (0 ∷ [])
 coveredReply (Differs c) = gives (1 ∷ c ∷ [])
@@ -57,9 +57,15 @@ firstDiffering (leaf a) u = 0
 firstDiffering (fork lo hi) (leaf b) = 0
 firstDiffering (fork lo hi) (fork lo′ hi′) = cond (sameTree lo lo′) (2 * firstDiffering hi hi′ + 1) (2 * firstDiffering lo lo′)
 
+abbrev pub agreement : Verdict
+agreement = answered (0 ∷ []) []
+
+abbrev pub difference : ℕ → Verdict
+difference c = answered (1 ∷ c ∷ []) []
+
 -- two functions compared
 unfoldable pub coverAnswer : Tree → Tree → Verdict
-coverAnswer t u = cond (sameTree t u) (answered (0 ∷ []) []) (answered (1 ∷ firstDiffering t u ∷ []) [])
+coverAnswer t u = cond (sameTree t u) agreement (difference (firstDiffering t u))
 
 -- past inspection: NODES where some opening run's table exceeds room, at the shortest's length; else list and table compared
 unfoldable pub covers : ℕ → ℕ → List ℕ → ℕ → List ℕ → ℕ → Verdict

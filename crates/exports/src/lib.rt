@@ -1,6 +1,7 @@
 // The public entries for C and Rust: numbers and slices in, the reply into a lent buffer.
 // Each call returns 1; where the reply's buffer has under 64 words it returns 0 and touches nothing.
 use cover::Covered;
+use listing::Listed;
 use making::Made;
 use refusal::Counted;
 use refusal::Refusal;
@@ -34,6 +35,8 @@ ghost use Rattle.making.specs.Made.{madeReply};
 ghost use Rattle.operators.specs.Operators.{makesAnd, makesOr, makesAndNot, makesForAll, makesExists};
 ghost use Rattle.builders.specs.Builders.{makesDnf, makesCnf, makesDnfValuation, makesCnfValuation};
 ghost use Rattle.cover.specs.Cover.{coveredReply, checksCover};
+ghost use Rattle.listing.specs.Listed.{listedReply};
+ghost use Rattle.lists.specs.Lists.{listsDnf, listsCnf};
 ghost use Rattle.unary.specs.Unary.{marksReply, negates, restricts, supports, countsCases};
 ghost use Rattle.exports.specs.Exports.{Exported, ExportedWork, replyLength, replyWords, accepted, bufferWith, replyAfter, writtenWords};
 
@@ -172,6 +175,15 @@ fn covered_written(covered: Covered) -> Written
         Covered::Agrees => value_written(0),
         Covered::Differs(case) => pair_written(1, case),
         Covered::Refused(r) => refusal_written(r),
+    }
+}
+
+fn listed_written(listed: Listed) -> Written
+    ensures { λ w. ⌜ writtenWords w ≡ padded (replyWords (listedReply listed)) 5 ⌝ }
+{
+    match listed {
+        Listed::Clauses(count) => value_written(count as u64),
+        Listed::Refused(r) => refusal_written(r),
     }
 }
 
@@ -647,4 +659,40 @@ pub extern "C" fn collartug_check_cover(
     }
     let covered = cover::check_cover(n, count, bdd, clause_count, clauses, room, work);
     write_reply(reply, covered_written(covered))
+}
+
+#[no_mangle]
+pub extern "C" fn collartug_to_dnf(
+    n: u16,
+    count: usize,
+    bdd: &[u32],
+    out: &mut [u64],
+    work: &mut [u32],
+    reply: &mut [u64],
+) -> u64
+    ensures { λ r. ⌜ Exported (listsDnf n count (now (bdd .entry)) (now (out .entry)) (now (work .entry))) r (now (out .entry)) (now (out .exit)) (now (work .entry)) (now (work .exit)) (now (reply .entry)) (now (reply .exit)) ⌝ }
+{
+    if reply.len() < REPLY_WORDS {
+        return 0;
+    }
+    let listed = lists::to_dnf(n, count, bdd, out, work);
+    write_reply(reply, listed_written(listed))
+}
+
+#[no_mangle]
+pub extern "C" fn collartug_to_cnf(
+    n: u16,
+    count: usize,
+    bdd: &[u32],
+    out: &mut [u64],
+    work: &mut [u32],
+    reply: &mut [u64],
+) -> u64
+    ensures { λ r. ⌜ Exported (listsCnf n count (now (bdd .entry)) (now (out .entry)) (now (work .entry))) r (now (out .entry)) (now (out .exit)) (now (work .entry)) (now (work .exit)) (now (reply .entry)) (now (reply .exit)) ⌝ }
+{
+    if reply.len() < REPLY_WORDS {
+        return 0;
+    }
+    let listed = lists::to_cnf(n, count, bdd, out, work);
+    write_reply(reply, listed_written(listed))
 }

@@ -2,13 +2,13 @@
 use mathlib.Core.Path.{_≡_, refl, sym, ap, _∙_}
 use mathlib.Core.Bool.{Bool, true, false, cond, not, _&&_, _||_}
 use mathlib.Core.List.{List, [], _∷_}
-use Prim.Native.Nat.{ℕ, zero, suc, _+_, _-_, _^_, _<_}
+use Prim.Native.Nat.{ℕ, _+_, _-_}
 use native.Mathlib.Omega.{arith}
 use native.Mathlib.Nat.{zero-add}
 use lib.Dec.{ltb}
 use lib.ListN.{length}
 use borrow.Author.Tests.{lt-ltb}
-use Rattle.theory.specs.Tree.{Deep, look}
+use Rattle.theory.specs.Tree.{look}
 use Rattle.theory.specs.Table.{Table, meaning, Ordered}
 use Rattle.theory.specs.Clause.{Clause}
 use Rattle.theory.proofs.Cases.{look-ext, look-tabulate, tabulate-deep}

@@ -11,14 +11,14 @@ use lib.ListN.{length}
 use lib.Pow.{pow-pos, pow-mono}
 use borrow.Author.Tests.{eq-eqb, ne-eqb}
 use Rattle.theory.specs.Mask.{odd, bit, setBit}
-use Rattle.theory.specs.Tree.{look, tabulate}
+use Rattle.theory.specs.Tree.{look}
 use Rattle.theory.specs.Table.{Node, Table, at, truth, says, meaning, Ordered}
 use Rattle.theory.specs.Clause.{Clause, clause, emptyClause, setCell}
-use Rattle.theory.proofs.Masks.{bit-past, bit-zero, bit-setBit, setBit-lt}
+use Rattle.theory.proofs.Masks.{bit-past, bit-setBit, setBit-lt}
 use Rattle.theory.proofs.Step.{Stands, stands-child, mark-le}
 use Rattle.theory.proofs.Cases.{says-look}
 use Rattle.theory.proofs.Levels.{nodeSays, nodeSays-level, nodeSays-step, nodeSays-bottom}
-use Rattle.cube.specs.Cube.{everyMark, allHold, oneHolds, allAre}
+use Rattle.cube.specs.Cube.{everyMark, allAre}
 use Rattle.cube.proofs.Runs.{all-hold, one-holds}
 use Rattle.paths.specs.Paths.{ended, pathsFrom, pathList, hits, misses, decides}
 use Rattle.paths.proofs.PathLaws.{ends, paths-end, paths-step}

@@ -2,12 +2,12 @@
 use mathlib.Core.Path.{_≡_, refl, sym, ap, ap₂, _∙_}
 use mathlib.Core.Bool.{Bool, true, false, cond, not, _&&_, _||_, Bool·beq}
 use mathlib.Core.List.{List, [], _∷_}
-use Prim.Native.Nat.{ℕ, zero, suc, _+_, _*_, _-_, _/_, _%_, _^_, _≤_, _<_}
+use Prim.Native.Nat.{ℕ, zero, suc, _+_, _*_, _-_, _/_, _%_, _^_}
 use native.Mathlib.Omega.{arith}
 use lib.ListN.{length}
 use borrow.Author.Tests.{eqb-true, eqb-false}
 use Rattle.theory.specs.Mask.{odd}
-use Rattle.theory.specs.Tree.{Tree, leaf, fork, Deep, look, caseCount, tabulate}
+use Rattle.theory.specs.Tree.{Tree, leaf, fork, Deep, look, caseCount}
 use Rattle.theory.specs.Table.{Table, meaning, Ordered}
 use Rattle.theory.specs.Clause.{Clause, marksOf}
 use Rattle.theory.proofs.Cases.{odd-even, odd-odd, half-even, half-odd, look-even, look-odd}

@@ -1,4 +1,3 @@
-use native.Mathlib.Omega.{arith}
 use Rattle.cover.specs.Cover.{coveredReply}
 use Rattle.cover.proofs.CompareLaws.{made-some, never-full, brought, agree, differ, paired}
 use borrow.Author.Needs.{needs}
