@@ -1,9 +1,8 @@
 //! The nine operators against truth tables and against the oracle, and their refusals against the specification's words.
 use biodivine_lib_bdd::Bdd;
 use differ::answer::{compare, compare_unserved, Answer, LEAST_REPLY, LIMIT, NODES, SHORT, TABLE, VARIABLE};
-use differ::convert::as_made;
 use differ::copies::{forms, unreduced_copy};
-use differ::corpus::{built, unreduced, windowed, Built, Meaning, Sum, MOST_NODES};
+use differ::corpus::{built, greatest, unreduced, windowed, Built, Meaning, Sum, MOST_NODES};
 use differ::expected_operators::{found, found_for};
 use differ::operation::{Operation, Operator, Space, Table};
 use differ::proved::Room;
@@ -311,24 +310,6 @@ fn corners(run: &mut Run, random: &mut Random) {
             }
         }
     }
-}
-
-/// A reduced table of 60 marks with exactly as many nodes as a call takes; it does not depend on mark 0.
-fn greatest(random: &mut Random) -> Vec<u32> {
-    let (fixed, most) = ((1 << 16) - 1, MOST_NODES);
-    let tail = loop {
-        let cases = (0..5_700).map(|_| Valuation { fixed, values: random.word() & fixed }).collect();
-        match Built::new(16, Meaning::Dnf(cases)) {
-            Some(table) if table.bdd.size() > most - 44 => break as_made(&table.bdd),
-            _ => continue,
-        }
-    };
-    let mut words: Vec<u32> = tail.chunks(3).flat_map(|node| [node[0] + 44, node[1], node[2]]).collect();
-    // each mark more in front is one node more
-    for mark in (1..44).rev().take(most - tail.len() / 3) {
-        words.extend([mark, 0, words.len() as u32 / 3 - 1]);
-    }
-    words
 }
 
 /// Tables of the greatest size in and out, with the greatest room and with one node less.

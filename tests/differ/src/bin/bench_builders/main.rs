@@ -1,9 +1,11 @@
-//! Times the builders of the proved library against the oracle, and against BuDDy where it is installed: a command of its own, and no test.
+//! Times the builders of the proved library against the oracle, and against BuDDy where it is installed, and then the extractors on the tables
+//! that were built: a command of its own, and no test.
 //!   cargo run --release --offline -p differ --bin bench_builders [--each] [--search SECONDS [--kind NUMBER]] [--ours NAME]
 //! `--search` looks for slow lists; `--ours` runs our side alone on the lists whose names hold NAME, for a profiler.
 //! A ratio is the other side's time by ours: above 1, ours is the quicker one.
 mod buddy;
 mod corpora;
+mod extraction;
 mod slow;
 
 use biodivine_lib_bdd::BddVariableSet;
@@ -114,6 +116,7 @@ fn main() {
     println!("room {MOST_NODES}; ratio: the oracle's time by ours");
     for (name, cases) in corpora::all() {
         time_corpus(&mut buffers, name, &cases);
+        extraction::time_corpus(&cases);
     }
     slow::time_slowest(&mut buffers);
 }
