@@ -1,8 +1,7 @@
 //! BuDDy, clause by clause, as its user would: only where the build script found it.
-use crate::corpora::Case;
 
 #[cfg(not(buddy))]
-pub fn time_list(_: &Case, _: usize) -> Option<f64> {
+pub fn time_list(_: &crate::corpora::Case, _: usize) -> Option<f64> {
     None
 }
 
@@ -76,7 +75,7 @@ mod there {
     pub fn time_list(case: &Case, times: usize) -> Option<f64> {
         let once = || {
             start(case.n);
-            let taken = time(|| drop(std::hint::black_box(build(case))));
+            let taken = time(|| assert!(std::hint::black_box(build(case)) >= 0));
             unsafe { bdd_done() };
             taken
         };
