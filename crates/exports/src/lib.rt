@@ -6,6 +6,7 @@ use making::Made;
 use refusal::Counted;
 use refusal::Refusal;
 use refusal::Truth;
+use sheet::SheetRead;
 use table::Inspection;
 use unary::Marks;
 use valuation::BddPartialValuation;
@@ -37,8 +38,9 @@ ghost use Rattle.builders.specs.Builders.{makesDnf, makesCnf, makesDnfValuation
 ghost use Rattle.cover.specs.Cover.{coveredReply, checksCover};
 ghost use Rattle.listing.specs.Listed.{listedReply};
 ghost use Rattle.lists.specs.Lists.{listsDnf, listsCnf};
+ghost use Rattle.sheet.specs.Sheet.{sheetReply, readsSheet};
 ghost use Rattle.unary.specs.Unary.{marksReply, negates, restricts, supports, countsCases};
-ghost use Rattle.exports.specs.Exports.{Exported, ExportedWork, replyLength, replyWords, accepted, bufferWith, replyAfter, writtenWords};
+ghost use Rattle.exports.specs.Exports.{Exported, ExportedWork, ExportedPair, replyLength, replyWords, accepted, bufferWith, replyAfter, writtenWords};
 
 // The least length of a reply's buffer.
 const REPLY_WORDS: usize = 64;
@@ -100,6 +102,18 @@ fn pair_written(first: u64, second: u64) -> Written
         first,
         second,
         third: 0,
+    }
+}
+
+fn triple_written(first: u64, second: u64, third: u64) -> Written
+    ensures { λ w. ⌜ writtenWords w ≡ padded (replyWords (gives (first ∷ second ∷ third ∷ []))) 5 ⌝ }
+{
+    Written {
+        number: 0,
+        place: 0,
+        first,
+        second,
+        third,
     }
 }
 
@@ -184,6 +198,17 @@ fn listed_written(listed: Listed) -> Written
     match listed {
         Listed::Clauses(count) => value_written(count as u64),
         Listed::Refused(r) => refusal_written(r),
+    }
+}
+
+fn sheet_written(read: SheetRead) -> Written
+    ensures { λ w. ⌜ writtenWords w ≡ padded (replyWords (sheetReply read)) 5 ⌝ }
+{
+    match read {
+        SheetRead::Dnf(s) => triple_written(1, s.n as u64, s.count as u64),
+        SheetRead::Cnf(s) => triple_written(2, s.n as u64, s.count as u64),
+        SheetRead::Table(s) => triple_written(3, s.n as u64, s.count as u64),
+        SheetRead::Refused(r) => refusal_written(r),
     }
 }
 
@@ -695,4 +720,20 @@ pub extern "C" fn collartug_to_cnf(
     }
     let listed = lists::to_cnf(n, count, bdd, out, work);
     write_reply(reply, listed_written(listed))
+}
+
+#[no_mangle]
+pub extern "C" fn collartug_read_sheet(
+    bytes: &[u8],
+    clauses: &mut [u64],
+    nodes: &mut [u32],
+    reply: &mut [u64],
+) -> u64
+    ensures { λ r. ⌜ ExportedPair (readsSheet (now (bytes .entry)) (now (clauses .entry)) (now (nodes .entry))) r (now (clauses .entry)) (now (clauses .exit)) (now (nodes .entry)) (now (nodes .exit)) (now (reply .entry)) (now (reply .exit)) ⌝ }
+{
+    if reply.len() < REPLY_WORDS {
+        return 0;
+    }
+    let read = sheet::read_sheet(bytes, clauses, nodes);
+    write_reply(reply, sheet_written(read))
 }
