@@ -1,3 +1,5 @@
 pub mod ReachLaws
 pub mod ReducedLaws
 pub mod CheckLaws
+pub mod PathLaws
+pub mod StartLaws

@@ -99,7 +99,7 @@ pub record Held (w : List ℕ) (s : PathState) : Type 0 where
   pub is : s ≡ stateOf way
   pub right : (way ≡ []) ⊎ Along w way
 
--- a node from which a path of d nodes more can go on to node 1
+-- node p, from which the path so far can go on to node 1
 pub record Descends (w : List ℕ) (x : Path) (p : ℕ) : Type 0 where
   pub n : ℕ
   pub count : ℕ
@@ -109,3 +109,8 @@ pub record Descends (w : List ℕ) (x : Path) (p : ℕ) : Type 0 where
   pub lies : p < count
   pub ends : 1 ≤ p
   pub deep : length x ≤ (nodeAt w p) .mark
+
+pub record Descending (w : List ℕ) (s : PathState) (p : ℕ) : Type 0 where
+  pub way : Path
+  pub is : s ≡ stateOf way
+  pub goes : Descends w way p
