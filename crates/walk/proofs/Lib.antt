@@ -3,3 +3,8 @@ pub mod ReducedLaws
 pub mod CheckLaws
 pub mod PathLaws
 pub mod StartLaws
+pub mod LentOut
+pub mod NextCall
+pub mod Ways
+pub mod KthLaws
+pub mod Sounds

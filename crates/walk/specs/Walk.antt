@@ -1,14 +1,16 @@
 -- The path walk: what it is at its start and after each step.
 use mathlib.Core.Path.{_≡_}
-use mathlib.Core.Bool.{Bool, cond}
+use mathlib.Core.Bool.{Bool, true, cond}
 use mathlib.Core.List.{List, [], _∷_}
 use Prim.Native.Nat.{ℕ, zero, suc, _-_}
 use lib.Dec.{eqb}
 use lib.ListN.{length}
 use denote.Ref.{now}
+use Rattle.theory.specs.Words.{nodes}
 use Rattle.theory.specs.Clause.{Clause}
 use Rattle.refusal.specs.Verdict.{Reply, gives, Verdict, refused, answered}
 use Rattle.refusal.specs.declared.Refusal.{Refusal}
+use Rattle.paths.specs.Paths.{pathList}
 use Rattle.walk.specs.Reduced.{admitsWalk}
 use Rattle.walk.specs.Path.{Path, pathNext, firstPath, clauseAlong, inArray, stateOf, held}
 use Rattle.walk.specs.declared.PathState.{PathState}
@@ -81,6 +83,21 @@ pathAfter (suc k) w s = nextPath w (pathAfter k w s)
 -- what a walk says after k steps
 abbrev pub kthStep : ℕ → ℕ → List ℕ → ℕ → Verdict
 kthStep n count w k = stepOf (wordsOf n count w) (pathAfter k (wordsOf n count w) (pathOf (startOf n count w)))
+
+-- what the step after k others says in a walk through these clauses: each step yields the next one, and after the last every step says ended
+unfoldable pub tells : List Clause → ℕ → Verdict
+tells [] k = ended
+tells (c ∷ cs) zero = yields c
+tells (c ∷ cs) (suc k) = tells cs k
+
+-- the clauses that a walk has before it: none where the start is refused
+unfoldable pub clausesBy : Verdict → List Clause → List Clause
+clausesBy (refused k p) cs = []
+clausesBy (answered vs outs) cs = cs
+
+-- they are the table's path list
+abbrev pub walkClauses : ℕ → ℕ → List ℕ → List Clause
+walkClauses n count w = clausesBy (admitsWalk n count w) (pathList true n (nodes count w))
 
 -- a walk that a start has made, after some steps: the one assumption of a step
 abbrev pub FromStart : BddPathIterator → Type 0

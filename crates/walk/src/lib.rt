@@ -340,3 +340,57 @@ fn held_words<'a>(number: u8, bdd: &'a [u32]) -> &'a [u32]
     }
     bdd
 }
+
+impl<'a> BddPathIterator<'a> {
+    // Starts a walk on a table. It holds the table's words by reference; a refused start holds none, and each of its steps says that it has ended.
+    pub fn new(n: u16, count: usize, bdd: &'a [u32]) -> BddPathIterator<'a>
+        ensures { λ r. ⌜ (now (r .bdd) ≡ wordsOf n count (now (bdd .entry))) × (r .bdd .ptr ≡ bdd .entry .ptr) × (startIn r ≡ startOf n count (now (bdd .entry))) ⌝ }
+    {
+        let s = start_of(n, count, bdd);
+        BddPathIterator {
+            bdd: held_words(s.number, bdd),
+            len: s.len,
+            path: s.path,
+            number: s.number,
+            place: s.place,
+        }
+    }
+
+    // The next clause, or that the walk has ended.
+    pub fn next(&mut self) -> PathStep
+        requires { ⌜ FromStart (now self) ⌝ }
+        ensures { λ r. ⌜ (pathStepReply r ≡ replied (stepOf (now (now (self .entry) .bdd)) (pathIn (now (self .entry))))) × (now (self .exit) ≡ moved (now (self .entry))) ⌝ }
+    {
+        let s = PathState {
+            len: self.len,
+            path: self.path,
+        };
+        let t = next_path(self.bdd, s);
+        self.len = t.len;
+        self.path = t.path;
+        step_of(self.bdd, s)
+    }
+
+    // Why the start was refused; number 0 where it was not.
+    pub fn refusal(&self) -> Refusal
+        ensures { λ r. ⌜ r ≡ refusalIn (now (self .entry)) ⌝ }
+    {
+        Refusal {
+            number: self.number,
+            place: self.place,
+        }
+    }
+}
+
+// What a walk started on these words says after k steps.
+pub fn kth_step(n: u16, count: usize, nodes: &[u32], k: u32) -> PathStep
+    ensures { λ r. ⌜ pathStepReply r ≡ replied (kthStep n count (now (nodes .entry)) k) ⌝ }
+{
+    let mut w = BddPathIterator::new(n, count, nodes);
+    let mut i = 0;
+    while i < k {
+        w.next();
+        i += 1;
+    }
+    w.next()
+}
