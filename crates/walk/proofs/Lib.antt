@@ -8,3 +8,4 @@ pub mod NextCall
 pub mod Ways
 pub mod KthLaws
 pub mod Sounds
+pub mod WalkSingle

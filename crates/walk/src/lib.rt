@@ -12,7 +12,7 @@ ghost use Rattle.table.specs.Inspection.{inspectionReply, SoundTable};
 ghost use Rattle.valuation.specs.Valuation.{clauseOf};
 ghost use Rattle.walk.specs.Reduced.{repeated, nodeReduced, firstUnreduced, admitsWalk, linksMarked, Marked};
 ghost use Rattle.walk.specs.Path.{pointer, onward, firstFrom, firstPath, canTurn, kept, clauseAlong, places, stateOf, held, Held, Descending};
-ghost use Rattle.walk.specs.Walk.{pathStepReply, stepOf, nextPath, startOf, wordsOf, heldWords, startIn, pathIn, refusalIn, moved, kthStep, FromStart};
+ghost use Rattle.walk.specs.Walk.{pathStepReply, stepOf, nextPath, startOf, wordsOf, heldWords, startIn, pathIn, refusalIn, moved, tells, walkClauses, FromStart};
 use pool::Found;
 use refusal::MAX_NODES;
 use refusal::REDUCED;
@@ -384,7 +384,7 @@ impl<'a> BddPathIterator<'a> {
 
 // What a walk started on these words says after k steps.
 pub fn kth_step(n: u16, count: usize, nodes: &[u32], k: u32) -> PathStep
-    ensures { λ r. ⌜ pathStepReply r ≡ replied (kthStep n count (now (nodes .entry)) k) ⌝ }
+    ensures { λ r. ⌜ pathStepReply r ≡ replied (tells (walkClauses n count (now (nodes .entry))) k) ⌝ }
 {
     let mut w = BddPathIterator::new(n, count, nodes);
     let mut i = 0;

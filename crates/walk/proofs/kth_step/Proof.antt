@@ -1,7 +1,7 @@
 -- `walk::kth_step` meets its contract: a walk of its MIR, by hand, with a loop. The walk that `new` returns is held in a local, which each turn of the loop lends to `next`, and comes home (`NextCall.antt`). All that the proof knows of the two is that each meets its contract.
 --     after        the walk after i steps.        At     the loop's invariant: the local holds the walk after i steps, i in its own local
 --     turns        a turn from the invariant: one step more, or the loop is left and the rest of the body runs
--- What `next` requires, that the walk came from a start, follows from what `new` ensures (`came`).
+-- What `next` requires, that the walk came from a start, follows from what `new` ensures (`came`); that the step is the clause of the path list, from `kth-tells`.
 -- Assumes nothing.
 use mathlib.Core.Path.{_≡_, refl, ap, sym, subst, _∙_}
 use Prim.Native.Nat.{ℕ, suc, _+_, _-_, _<_, _≤_, _^_, zero-le}
@@ -49,10 +49,11 @@ use denote.Exit.{yes}
 use denote.Triple.Clauses.{ensured, lasts}
 use Rattle.walk.specs.Walk as spec
 use Rattle.refusal.specs.Verdict.{replied}
-use Rattle.walk.specs.Walk.{FromStart, pathStepReply, startOf, wordsOf, stepOf, pathOf, pathIn, startIn, pathAfter, moved, kthStep}
+use Rattle.walk.specs.Walk.{FromStart, pathStepReply, startOf, wordsOf, stepOf, pathOf, pathIn, startIn, pathAfter, moved, tells, walkClauses}
 use Rattle.walk.specs.declared.BddPathIterator.{BddPathIterator}
 use Rattle.walk.specs.declared.PathStep.{PathStep}
 use Rattle.walk.specs.declared.PathStart.{PathStart}
+use Rattle.walk.proofs.KthLaws.{kth-tells}
 use Rattle.walk.proofs.NextCall.{B, αᵉ, mach, Cell, Next, to-next, Away, lends, gives}
 use Rattle.walk.proofs.BddPathIterator as T
 use Rattle.walk.proofs.BddPathIterator.Laws as T′
@@ -140,7 +141,7 @@ module _ {M : Type 1} (𝓤 : URA M) (H : Heap 𝓤) (A : Atoms 𝓤) (W : Given
   new-said : (w : BddPathIterator) → ent 𝓤 (ensured 𝓤 H A new.ended (new.clauses 𝓤 H A at-mem run) (κ, tt) args-new tt w) (fact 𝓤 (Started w))
   new-said w = exE 𝓤 _ (λ ws. snd∗ 𝓤 (sem 𝓤 H A (lasts new.ended (κ, tt) args-new ws)) (fact 𝓤 (Started w)))
 
-  exits : (r : PathStep) (u : Val) → pathStepReply r ≡ replied (kthStep n count (now s) k) → ent 𝓤 (⋆ 𝓤 H A (‵ (flft κ q) ∷ ‵ (S.the-row .own r (u ∷ [])) ∷ ‵ Own ∷ [])) (Post u)
+  exits : (r : PathStep) (u : Val) → pathStepReply r ≡ replied (tells (walkClauses n count (now s)) k) → ent 𝓤 (⋆ 𝓤 H A (‵ (flft κ q) ∷ ‵ (S.the-row .own r (u ∷ [])) ∷ ‵ Own ∷ [])) (Post u)
   exits r u e =
       qed W (‵ (flft κ q) ∷ ‵ (S.the-row .own r (u ∷ [])) ∷ ‵ Own ∷ []) ∵
       suffices ! _ (ends-at 𝓤 H A kth-step.ended stayed (kth-step.clauses 𝓤 H A at-mem run) W (((κ, tt), (q, tt), tt, args, at), tt) u r (tt, (tt, (tt, (tt, tt)))) (tt, (tt, (tt, (tt, tt))))) $ says ! e $
@@ -185,8 +186,8 @@ module _ {M : Type 1} (𝓤 : URA M) (H : Heap 𝓤) (A : Atoms 𝓤) (W : Given
       came : (i : ℕ) → FromStart (after i)
       came i = (n, (count, (now s, (i, (e .0, (λ j. pathAfter i (e .0 j) (pathOf (e .2 j))))))))
 
-      stepped : (i : ℕ) → i ≡ k → stepOf (now (w .bdd)) (pathIn (after i)) ≡ kthStep n count (now s) k
-      stepped i f = ap (λ (j : ℕ). stepOf (now (w .bdd)) (pathAfter j (now (w .bdd)) (pathIn w))) f ∙ (ap (λ (xs : List ℕ). stepOf xs (pathAfter k xs (pathIn w))) (e .0) ∙ ap (λ (p : PathStart). stepOf (wordsOf n count (now s)) (pathAfter k (wordsOf n count (now s)) (pathOf p))) (e .2))
+      stepped : (i : ℕ) → i ≡ k → stepOf (now (w .bdd)) (pathIn (after i)) ≡ tells (walkClauses n count (now s)) k
+      stepped i f = ap (λ (j : ℕ). stepOf (now (w .bdd)) (pathAfter j (now (w .bdd)) (pathIn w))) f ∙ (ap (λ (xs : List ℕ). stepOf xs (pathAfter k xs (pathIn w))) (e .0) ∙ ap (λ (p : PathStart). stepOf (wordsOf n count (now s)) (pathAfter k (wordsOf n count (now s)) (pathOf p))) (e .2) ∙ kth-tells n count (now s) k)
 
       abbrev At : Upto → List (Item 𝓤)
       At i = ‵ (Cell l₅ (mach κ (after (i .0)))) ∷ ‵ (B κ .own (after (i .0)) (mach κ (after (i .0)) ∷ [])) ∷ ‵ (flft κ q) ∷ ‵ Own
