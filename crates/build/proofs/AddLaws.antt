@@ -20,7 +20,7 @@ use Rattle.cube.specs.Cube.{setCube}
 use Rattle.cube.proofs.Cubes.{set-deep}
 use Rattle.cube.proofs.Sizes.{pool-bound, new-bound}
 use Rattle.put.specs.declared.Job.{Job}
-use Rattle.put.specs.Put.{tree, Ready, Put}
+use Rattle.put.specs.Put.{memoBase, tree, Ready, Put}
 use Rattle.build.specs.declared.Goal.{Goal}
 use Rattle.build.specs.Build.{carried, Carrying, Carried, Copied, Older, Compacting, fresh, Compacted, Adding, target, Added, Exported}
 use Rattle.build.proofs.CarryLaws.{jump}
@@ -75,7 +75,7 @@ module _ (w out : List ℕ) (g : Goal) (k a : ℕ) (r : Compacting w out g k a) 
     pub compact-done : (w₂ : List ℕ) → Copied w₁ w₂ out₁ (3 * m) → Compacted w w₂ g k a o m
     compact-done w₂ p = record {
       holds = record { is = fresh-is ∙ ap (λ (z : Table). (z, o)) (nodes-agree m out₁ w₂ (λ i h. sym (p .front i h))); fits = c .holds .fits };
-      young = λ x h. subst (λ z. z / 16384 ≤ g .stamp) (sym (p .back (3 * g .cap + x) (omega (arith, c .holds .fits, r .cap)))) (c .young x h);
+      young = λ x h. subst (λ z. z / memoBase ≤ g .stamp) (sym (p .back (3 * g .cap + x) (omega (arith, c .holds .fits, r .cap)))) (c .young x h);
     }
 
     fresh-sound : Walked (g .n) (constants (g .n)) (g .n) 0 (treeOf (g .n) s 0 a) (nodes m out₁, o)

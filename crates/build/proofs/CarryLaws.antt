@@ -20,7 +20,7 @@ use Rattle.theory.proofs.Again.{walk-again, walk-grows}
 use Rattle.theory.proofs.Levels.{treeOf-lifted, lifted-walk}
 use Rattle.theory.proofs.Turned.{mk-grows, walk-fork}
 use Rattle.cube.proofs.Cubes.{stays}
-use Rattle.put.specs.Put.{word, wordOf}
+use Rattle.put.specs.Put.{memoBase, word, wordOf}
 use Rattle.pool.specs.Pool.{Holds, Pushing, pushed}
 use Rattle.put.proofs.SettleLaws.{keep-nodes, keep-memo}
 use Rattle.build.specs.declared.Goal.{Goal}
@@ -59,7 +59,7 @@ module _ (w out : List ℕ) (g : Goal) (k m a : ℕ) (r : Carrying w out g k m a
   pub carry-end : a < 2 → Carried w w out out g k m a a m
   carry-end h = record { holds = record { is = carried-end (g .n) (nodes k w) (nodes m out) (r .pool) a h; fits = r .holds }; pool = refl; known = r .known; origin = r .origin; above = λ y h. refl; young = r .young }
 
-  pub carry-memo : (e : ℕ) → word w (g .cap) a / 16384 ≡ g .stamp → e ≡ word w (g .cap) a % 16384 → Carried w w out out g k m a e m
+  pub carry-memo : (e : ℕ) → word w (g .cap) a / memoBase ≡ g .stamp → e ≡ word w (g .cap) a % memoBase → Carried w w out out g k m a e m
   carry-memo e st ee = record {
     holds = record { is = r .known a (omega (arith, r .lies, r .fits)) st .1 ∙ ap (λ (x : ℕ). (nodes m out, x)) (sym ee); fits = r .holds };
     pool = refl;
@@ -70,7 +70,7 @@ module _ (w out : List ℕ) (g : Goal) (k m a : ℕ) (r : Carrying w out g k m a
   }
 
 -- an inner node
-module _ (w out : List ℕ) (g : Goal) (k m a : ℕ) (r : Carrying w out g k m a) (two : 2 ≤ a) (v x y : ℕ) (ev : v ≡ nodeAt w a .mark) (ex : x ≡ nodeAt w a .low) (ey : y ≡ nodeAt w a .high) (nk : word w (g .cap) a / 16384 ≡ g .stamp → ⊥) where
+module _ (w out : List ℕ) (g : Goal) (k m a : ℕ) (r : Carrying w out g k m a) (two : 2 ≤ a) (v x y : ℕ) (ev : v ≡ nodeAt w a .mark) (ex : x ≡ nodeAt w a .low) (ey : y ≡ nodeAt w a .high) (nk : word w (g .cap) a / memoBase ≡ g .stamp → ⊥) where
   abbrev s : Table
   s = nodes k w
 
@@ -261,7 +261,7 @@ module _ (w out : List ℕ) (g : Goal) (k m a : ℕ) (r : Carrying w out g k m a
           let same : c .x ≡ a = alone n s (r .pool) (suc (n - suc v)) v (c .x) a (omega (arith, v-lt))
           (record { lies = omega (arith, c .lies, length-nodes k w); fits = omega arith }) (record { lies = a-in; fits = omega (arith, mark-is) })
           (sym (b .means) ∙ i-tree i e ∙ sym a-tree) in
-          nk (ap (λ z. z / 16384) (sym still) ∙ ap (λ z. word w₂ (g .cap) z / 16384) (sym same) ∙ c .stamp)
+          nk (ap (λ z. z / memoBase) (sym still) ∙ ap (λ z. word w₂ (g .cap) z / memoBase) (sym same) ∙ c .stamp)
 
       mk-is : mk o₂ v p q ≡ pushed out₂ m₂ v p q
       mk-is = mk-other o₂ v p q apart ∙ go (grow-cases o₂ (node v p q))
@@ -290,7 +290,7 @@ module _ (w out : List ℕ) (g : Goal) (k m a : ℕ) (r : Carrying w out g k m a
         mk₃ = subst (λ z. Walked n o₂ (suc (n - suc v)) v (fork (treeOf (n - suc v) o₂ (suc v) p) (treeOf (n - suc v) o₂ (suc v) q)) z) (h .is)
             (mk-sound n o₂ (sound₂ .good) (n - suc v) v p q whole low₂ (sound₂ .stands))
 
-        pub e-small : e < 16384
+        pub e-small : e < memoBase
         e-small = omega (arith, mk₃ .stands .lies, length-nodes m₃ out₃, h .fits, r .small)
 
         again : carried n s o₃ a ≡ (o₃, e)
@@ -317,13 +317,13 @@ module _ (w out : List ℕ) (g : Goal) (k m a : ℕ) (r : Carrying w out g k m a
         came w₃ q₃ pool₃ i ti lt = elim (decLt i m₂) [
           | yes was ↦
               let c : Source w₂ out₂ g k m₂ i = f .origin i ti was in
-              let ne : c .x ≢ a = λ z. nk (ap (λ d. d / 16384) (sym still) ∙ ap (λ d. word w₂ (g .cap) d / 16384) (sym z) ∙ c .stamp) in
+              let ne : c .x ≢ a = λ z. nk (ap (λ d. d / memoBase) (sym still) ∙ ap (λ d. word w₂ (g .cap) d / memoBase) (sym z) ∙ c .stamp) in
               let b : word w₃ (g .cap) (c .x) ≡ word w₂ (g .cap) (c .x) = ap (λ (d : List ℕ). word d (g .cap) (c .x)) q₃ ∙ getD-set-other w₂ (3 * g .cap + a) (3 * g .cap + c .x) (wordOf (g .stamp) e) 0 (λ d. ne (omega arith)) in
               record {
                 x = c .x;
                 lies = c .lies;
-                stamp = ap (λ d. d / 16384) b ∙ c .stamp;
-                says = ap (λ d. d % 16384) b ∙ c .says;
+                stamp = ap (λ d. d / memoBase) b ∙ c .stamp;
+                says = ap (λ d. d % memoBase) b ∙ c .says;
                 mark = ap (λ (z : Table). (at z (c .x)) .mark) (pool₃ ∙ sym pool₂) ∙ c .mark
                     ∙ sym (ap (λ (z : Table). (at z i) .mark) o₃-is ∙ ap (λ (z : Node). z .mark) (at-old o₂ (node v p q ∷ []) i (omega (arith, length-nodes m₂ out₂))));
               }
@@ -333,8 +333,8 @@ module _ (w out : List ℕ) (g : Goal) (k m a : ℕ) (r : Carrying w out g k m a
               record {
                 x = a;
                 lies = r .lies;
-                stamp = ap (λ d. d / 16384) b ∙ (let c : wordOf (g .stamp) e / 16384 ≡ g .stamp = omega (arith, e-small) in c);
-                says = ap (λ d. d % 16384) b ∙ (let c : wordOf (g .stamp) e % 16384 ≡ i = omega (arith, e-small, new-is) in c);
+                stamp = ap (λ d. d / memoBase) b ∙ (let c : wordOf (g .stamp) e / memoBase ≡ g .stamp = omega (arith, e-small) in c);
+                says = ap (λ d. d % memoBase) b ∙ (let c : wordOf (g .stamp) e % memoBase ≡ i = omega (arith, e-small, new-is) in c);
                 mark = ap (λ (z : Table). (at z a) .mark) pool₃ ∙ mark-is
                     ∙ sym (ap (λ (z : Table). (at z i) .mark) o₃-is ∙ ap (λ (d : ℕ). (at (o₂ ++ (node v p q ∷ [])) d) .mark) (z ∙ sym (length-nodes m₂ out₂)) ∙ ap (λ (z : Node). z .mark) (at-new o₂ (node v p q)));
               }
@@ -348,21 +348,21 @@ module _ (w out : List ℕ) (g : Goal) (k m a : ℕ) (r : Carrying w out g k m a
               pool = pool₃;
               known = λ i lt st. elim (keep-memo (g .cap) (g .stamp) a (wordOf (g .stamp) e) w₂ w₃ slot-in true q₃ i) [
                 | inl b ↦
-                    let c = f .known i lt (ap (λ z. z / 16384) (sym b) ∙ st) in (
+                    let c = f .known i lt (ap (λ z. z / memoBase) (sym b) ∙ st) in (
                       c .0,
-                      ap (λ (z : Table). carried n z o₃ i) pool₃ ∙ old i _ (c .0) (ap (λ (z : Table). carried n z o₂ i) (sym pool₂) ∙ c .1) ∙ ap (λ (z : ℕ). (o₃, z % 16384)) (sym b),
+                      ap (λ (z : Table). carried n z o₃ i) pool₃ ∙ old i _ (c .0) (ap (λ (z : Table). carried n z o₂ i) (sym pool₂) ∙ c .1) ∙ ap (λ (z : ℕ). (o₃, z % memoBase)) (sym b),
                     )
                 | inr b ↦ (
                   omega (arith, b .1, r .lies),
                   ap₂ (λ (z : Table) (i : ℕ). carried n z o₃ i) pool₃ (b .1) ∙ again
-                      ∙ ap (λ (z : ℕ). (o₃, z)) ((let c : e ≡ wordOf (g .stamp) e % 16384 = omega (arith, e-small) in c) ∙ ap (λ z. z % 16384) (sym (b .2))),
+                      ∙ ap (λ (z : ℕ). (o₃, z)) ((let c : e ≡ wordOf (g .stamp) e % memoBase = omega (arith, e-small) in c) ∙ ap (λ z. z % memoBase) (sym (b .2))),
                 )
               ];
               origin = came w₃ q₃ pool₃;
               above = λ i lt. ap (λ (d : List ℕ). word d (g .cap) i) q₃ ∙ getD-set-other w₂ (3 * g .cap + a) (3 * g .cap + i) (wordOf (g .stamp) e) 0 (λ d. omega arith)
                   ∙ f .above i (omega (arith, y-lt)) ∙ u .above i (omega (arith, x-lt));
               young = λ i lt. elim (keep-memo (g .cap) (g .stamp) a (wordOf (g .stamp) e) w₂ w₃ slot-in true q₃ i) [
-                | inl b ↦ subst (λ z. z / 16384 ≤ g .stamp) (sym b) (f .young i lt)
-                | inr b ↦ subst (λ z. z / 16384 ≤ g .stamp) (sym (b .2)) (omega (arith, e-small))
+                | inl b ↦ subst (λ z. z / memoBase ≤ g .stamp) (sym b) (f .young i lt)
+                | inr b ↦ subst (λ z. z / memoBase ≤ g .stamp) (sym (b .2)) (omega (arith, e-small))
               ];
             }

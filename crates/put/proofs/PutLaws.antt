@@ -20,7 +20,7 @@ use Rattle.put.specs.declared.Job.{Job}
 use Rattle.put.specs.declared.Cut.{Cut}
 use Rattle.pool.specs.declared.Noted.{Noted}
 use Rattle.pool.specs.declared.Noted.the-variants.{Node as Got, Full}
-use Rattle.put.specs.Put.{tree, word, wordOf, Ready, Parted, Settling, Settled, Settles, Put, Puts, Forking}
+use Rattle.put.specs.Put.{memoBase, tree, word, wordOf, Ready, Parted, Settling, Settled, Settles, Put, Puts, Forking}
 
 tree-deep : (j : Job) (s : Table) (l a : ℕ) (off : Bool) → Deep (j .n - l) (tree j s l a off)
 tree-deep j s l a off = part-deep (truth (j .term)) (j .fixed) (j .values) s (j .n - l) l a off
@@ -228,10 +228,10 @@ module _ (w : List ℕ) (j : Job) (l k a : ℕ) (off : Bool) (r : Ready w j l k 
         k-more : k₂ ≤ k₃
         k-more = omega (arith, ap length (mk₃ .grown), length-append s₂ (mk₃ .more), length-nodes k₃ w₃, length-nodes k₂ w₂)
 
-        word-div : wordOf (j .stamp) o / 16384 ≡ j .stamp
+        word-div : wordOf (j .stamp) o / memoBase ≡ j .stamp
         word-div = omega (arith, o-small, y .holds .fits, r .few)
 
-        word-mod : wordOf (j .stamp) o % 16384 ≡ o
+        word-mod : wordOf (j .stamp) o % memoBase ≡ o
         word-mod = omega (arith, o-small, y .holds .fits, r .few)
 
         a-in : a < k₃
@@ -243,17 +243,17 @@ module _ (w : List ℕ) (j : Job) (l k a : ℕ) (off : Bool) (r : Ready w j l k 
           holds = record { is = is₃; fits = y .holds .fits };
           known = λ i h e. elim (y .memo i h) [
             | inl q ↦
-                let f = x .known i h (ap (λ z. z / 16384) (sym q) ∙ e) in
-                (omega (arith, f .0, k-more), old-says i _ (omega (arith, f .0, length-nodes k₂ w₂)) (f .1) ∙ ap (λ (z : ℕ). (s₃, z % 16384)) (sym q))
+                let f = x .known i h (ap (λ z. z / memoBase) (sym q) ∙ e) in
+                (omega (arith, f .0, k-more), old-says i _ (omega (arith, f .0, length-nodes k₂ w₂)) (f .1) ∙ ap (λ (z : ℕ). (s₃, z % memoBase)) (sym q))
             | inr q ↦ (
               omega (arith, q .1, a-in),
-              subst (λ (z : ℕ). walk s₃ ((at s₃ z) .mark) (tree j s₃ ((at s₃ z) .mark) z false) ≡ (s₃, word w₃ (j .cap) i % 16384)) (sym (q .1))
-                  (new-says (q .0) ∙ ap (λ (z : ℕ). (s₃, z)) (sym word-mod ∙ ap (λ z. z % 16384) (sym (q .2)))),
+              subst (λ (z : ℕ). walk s₃ ((at s₃ z) .mark) (tree j s₃ ((at s₃ z) .mark) z false) ≡ (s₃, word w₃ (j .cap) i % memoBase)) (sym (q .1))
+                  (new-says (q .0) ∙ ap (λ (z : ℕ). (s₃, z)) (sym word-mod ∙ ap (λ z. z % memoBase) (sym (q .2)))),
             )
           ];
           young = λ i h. elim (y .memo i h) [
-            | inl q ↦ subst (λ z. z / 16384 ≤ j .stamp) (sym q) (x .young i h)
-            | inr q ↦ subst (λ z. z / 16384 ≤ j .stamp) (sym (q .2)) (omega (arith, word-div))
+            | inl q ↦ subst (λ z. z / memoBase ≤ j .stamp) (sym q) (x .young i h)
+            | inr q ↦ subst (λ z. z / memoBase ≤ j .stamp) (sym (q .2)) (omega (arith, word-div))
           ];
         }
 
