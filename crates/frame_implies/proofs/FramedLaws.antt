@@ -28,7 +28,7 @@ use Rattle.frame_join.specs.declared.Place.{Place}
 use Rattle.frame_join.specs.Framed.{leftPart, rightPart, memoPart, Layout, SplittingIn}
 use Rattle.frame_join.proofs.FramedLaws.{layout-kept, memo-long, left-kept, right-kept}
 use Rattle.frame_join.proofs.WholeLaws.{jobOf, placeOf, layout-in, operands-in, joins-trees}
-use Rattle.frame_implies.specs.Framed.{ImplyingIn, AskingIn, inside}
+use Rattle.frame_implies.specs.Framed.{ImplyingIn, AskingIn, saysNo, without}
 
 module _ (w w′ : List ℕ) (at : Place) (j : Job) (y : Layout w at j) (n : length w′ ≡ length w) (f : take (at .memo) w′ ≡ take (at .memo) w) where
   out-front : take (at .out) w′ ≡ take (at .out) w
@@ -163,8 +163,8 @@ module _ (q : Size) (w : List ℕ) (a k b j : ℕ) (sized : Sized q (length w)) 
     asks = operands-in q w (q .mem) a k b j sized ha hb size 4 x u y v h i;
   }
 
-  pub inside-in : (z : Bool) → SaysNo (q .n) (joinedBy (leftPart w P J) (rightPart w P J) J) z → (f g : Tree) → Tab (q .n) w a k f → Tab (q .n) w b j g → z ≡ inside (q .n) (cofactor x u f) (cofactor y v g)
-  unfolding inside
+  pub inside-in : (z : Bool) → SaysNo (q .n) (joinedBy (leftPart w P J) (rightPart w P J) J) z → (f g : Tree) → Tab (q .n) w a k f → Tab (q .n) w b j g → z ≡ saysNo (q .n) (without (cofactor x u f) (cofactor y v g))
+  unfolding saysNo
   inside-in z s f g tf tg =
       no-test (q .n) (joinedBy (leftPart w P J) (rightPart w P J) J) z s
       ∙ ap (λ t. sameTree t (konst (q .n) false)) (joins-trees q w (q .mem) a k b j sized ha hb size 4 x u y v f g tf tg ∙ ap (λ o. pointwise o (cofactor x u f) (cofactor y v g)) and-not-table)
@@ -172,7 +172,7 @@ module _ (q : Size) (w : List ℕ) (a k b j : ℕ) (sized : Sized q (length w)) 
 -- the tables as they are
 pub pair-inside : (q : Size) (w : List ℕ) (a k b j : ℕ) (sized : Sized q (length w)) (ha : Operand q w a k (q .mem)) (hb : Operand q w b j (q .mem)) (size : ℕ) (z : Bool)
     → let J : Job = jobOf q 4 k (q .n) false j (q .n) false in let P : Place = placeOf q a b (q .mem) size in
-    SaysNo (q .n) (joinedBy (leftPart w P J) (rightPart w P J) J) z → Tests (inside (q .n)) (q .n) w a k b j z
+    SaysNo (q .n) (joinedBy (leftPart w P J) (rightPart w P J) J) z → Tests (λ f g. saysNo (q .n) (without f g)) (q .n) w a k b j z
 pair-inside q w a k b j sized ha hb size z s f g tf tg =
     inside-in q w a k b j sized ha hb size (q .n) false (q .n) false z s f g tf tg
-    ∙ ap₂ (inside (q .n)) (cofactor-none (q .n) (q .n) false f (tf .deep) (omega arith)) (cofactor-none (q .n) (q .n) false g (tg .deep) (omega arith))
+    ∙ ap₂ (λ s t. saysNo (q .n) (without s t)) (cofactor-none (q .n) (q .n) false f (tf .deep) (omega arith)) (cofactor-none (q .n) (q .n) false g (tg .deep) (omega arith))

@@ -17,6 +17,10 @@ pub record AskingIn (w : List ℕ) (at : Place) (j : Job) : Type 0 where
   pub layout : Layout w at j
   pub asks : Operands (leftPart w at j) (rightPart w at j) (memoPart w at) j
 
--- wherever f says yes, g does: f and not g is no of every case
-unfoldable pub inside : ℕ → Tree → Tree → Bool
-inside n f g = sameTree (pointwise (λ x y. x && not y) f g) (konst n false)
+-- no of every case, as a test
+unfoldable pub saysNo : ℕ → Tree → Bool
+saysNo n g = sameTree g (konst n false)
+
+-- the cases of f that g leaves out
+abbrev pub without : Tree → Tree → Tree
+without f g = pointwise (λ x y. x && not y) f g

@@ -7,7 +7,7 @@ ghost use Rattle.join.specs.Joining.{joinedBy};
 ghost use Rattle.implies.specs.Implying.{Implies, SaysNo};
 ghost use Rattle.frame.specs.Held.{Sized, Operand, Tests, Reads};
 ghost use Rattle.frame_join.specs.Framed.{leftPart, rightPart, memoPart};
-ghost use Rattle.frame_implies.specs.Framed.{ImplyingIn, AskingIn, inside};
+ghost use Rattle.frame_implies.specs.Framed.{ImplyingIn, AskingIn, saysNo, without};
 use frame::Size;
 use frame_join::Place;
 use join::Job;
@@ -57,7 +57,7 @@ fn tables_say_no_in(w: &mut [u32], at: Place, job: Job) -> bool
 pub fn implies_in(w: &mut [u32], q: Size, a: usize, k: u32, b: usize, j: u32) -> bool
     requires { ⌜ Sized q (length (now w)) × Operand q (now w) a k (q .mem) × Operand q (now w) b j (q .mem) ⌝ }
     ensures { λ _. ⌜ take (q .mem) (now (w .exit)) ≡ take (q .mem) (now (w .entry)) ⌝ }
-    ensures { λ r. ⌜ Tests (inside (q .n)) (q .n) (now (w .entry)) a k b j r ⌝ }
+    ensures { λ r. ⌜ Tests (λ f g. saysNo (q .n) (without f g)) (q .n) (now (w .entry)) a k b j r ⌝ }
 {
     let left = Side {
         count: k,
@@ -90,7 +90,7 @@ pub fn implies_in(w: &mut [u32], q: Size, a: usize, k: u32, b: usize, j: u32) ->
 pub fn spare_in(w: &mut [u32], q: Size, a: usize, k: u32, x: u16, v: bool) -> bool
     requires { ⌜ Sized q (length (now w)) × Operand q (now w) a k (q .mem) ⌝ }
     ensures { λ _. ⌜ take (q .mem) (now (w .exit)) ≡ take (q .mem) (now (w .entry)) ⌝ }
-    ensures { λ r. ⌜ Reads (λ f. inside (q .n) (cofactor x v f) (cofactor x (not v) f)) (q .n) (now (w .entry)) a k r ⌝ }
+    ensures { λ r. ⌜ Reads (λ f. saysNo (q .n) (without (cofactor x v f) (cofactor x (not v) f))) (q .n) (now (w .entry)) a k r ⌝ }
 {
     let left = Side {
         count: k,
