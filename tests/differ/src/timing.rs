@@ -61,7 +61,11 @@ pub fn option(name: &str) -> Option<String> {
     std::env::args().skip_while(|argument| argument != name).nth(1)
 }
 
-/// Our side alone, again and again, for a profiler.
-pub fn run_ours(name: &str, times: usize, mut ours: impl FnMut() -> Duration) {
-    println!("{name}: {}", micros(middle((0..times).map(|_| ours()).collect())));
+/// Our side alone, again and again for a second at least, for a profiler.
+pub fn run_ours(name: &str, mut ours: impl FnMut() -> Duration) {
+    let (start, mut times) = (Instant::now(), vec![]);
+    while start.elapsed() < Duration::from_secs(1) {
+        times.push(ours());
+    }
+    println!("{name}: {}", micros(middle(times)));
 }
