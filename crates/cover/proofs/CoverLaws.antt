@@ -6,6 +6,7 @@ use Prim.Native.Nat.{ℕ, suc, _*_, _≤_}
 use native.Mathlib.Omega.{arith}
 use lib.Dec.{ltb}
 use lib.ListN.{length, take}
+use borrow.Author.Tests.{ltb-true}
 use Rattle.theory.specs.Tree.{Tree, sameTree}
 use Rattle.theory.specs.Table.{meaning, canon}
 use Rattle.theory.specs.Words.{stride, nodes}
@@ -58,10 +59,10 @@ module _ (n count : ℕ) (words : List ℕ) (root clauses : ℕ) (list : List �
   abbrev u : Tree
   u = meaning n (nodes count words)
 
-  pub building : Building n (clauseAt list) clauses 1 room memory work
-  building = record {
+  pub building : (term : ℕ) → ltb term 2 ≡ true → Building n (clauseAt list) clauses term room memory work
+  building term polar = record {
     marks = g .table .marks;
-    polar = omega arith;
+    polar = ltb-true term 2 polar;
     some = g .some;
     few = g .few;
     count = omega (arith, g .listed);

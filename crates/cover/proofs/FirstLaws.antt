@@ -15,6 +15,11 @@ pub record First (k : ℕ) (f g : ℕ → Bool) (c : ℕ) : Type 0 where
   pub differ : f c ≢ g c
   pub before : (d : ℕ) → d < 2 ^ k → earlier k d c ≡ true → f d ≡ g d
 
+-- mark 0 is compared first: the case of mark 1 alone, the number 2, comes before that of mark 0 alone, the number 1
+pub mark-zero-first : earlier 2 2 1 ≡ true
+unfolding earlier
+mark-zero-first = refl
+
 -- ---- the order, by the bit of the first mark
 module _ (k c d : ℕ) where
   earlier-low : earlier (suc k) (2 * c) (2 * d) ≡ earlier k c d

@@ -4,3 +4,5 @@ pub mod Demand3
 pub mod Starred
 pub mod Operators
 pub mod Builders
+pub mod Lists
+pub mod Cover

@@ -1,5 +1,5 @@
 use native.Mathlib.Omega.{arith}
-use mathlib.Core.Path.{_∙_}
+use mathlib.Core.Path.{refl, _∙_}
 use Rattle.cover.specs.Cover.{coveredReply}
 use Rattle.cover.proofs.CoverLaws.{building, list-over, made-few, made-within, made-fits, comparing, list-compared}
 use borrow.Author.Needs.{needs}
@@ -15,7 +15,7 @@ cast-build-2 c = search needs
 build-requires : tie.Need-build-requires
 build-requires c κs =
     let g = c .before .before .before .before .before .before .pre in
-    (building _ _ _ _ _ _ _ _ _ g, g .given)
+    (building _ _ _ _ _ _ _ _ _ g _ refl, g .given)
 
 enum-known-tabled : tie.Need-enum-known-tabled
 enum-known-tabled c = search needs
