@@ -27,6 +27,8 @@ pub mod reading_builders;
 pub mod reading_cover;
 pub mod reading_extractors;
 pub mod reading_operators;
+pub mod reading_sheet;
+pub mod reading_walk;
 pub mod run;
 pub mod sample;
 pub mod spoiled;

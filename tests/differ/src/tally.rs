@@ -1,5 +1,5 @@
 //! Counts the calls of each entry and its refusals, and objects where a refusal that an entry can give was never seen.
-use crate::answer::{compare, Answer, Outcome, CLAUSE, CLAUSES, LEAST_REPLY, LIMIT, NODES, SHORT, TABLE, VARIABLE};
+use crate::answer::{compare, Answer, Outcome, CLAUSE, CLAUSES, LEAST_REPLY, LIMIT, NODES, REDUCED, SHEET, SHORT, TABLE, VARIABLE};
 use crate::proved::Room;
 use std::collections::{BTreeMap, BTreeSet};
 
@@ -82,9 +82,15 @@ pub const EXTRACTORS: [Entry; 2] = [
     entry("to_cnf", &[LIMIT, SHORT, TABLE, CLAUSES], &[0, 1, 2, 1024]),
 ];
 
+/// The walk, as far as it crosses the boundary; the sample does not show it.
+pub const WALK: [Entry; 2] = [entry("walk_check", &[LIMIT, SHORT, TABLE, REDUCED], &[0, 1, 2, 4095]), entry("kth_step", &[], EITHER)];
+
+/// The sheet reader: lists with either polarity, and tables; the sample does not show it.
+pub const READER: [Entry; 1] = [entry("read_sheet", &[LIMIT, SHORT, CLAUSE, TABLE, CLAUSES, SHEET], &[1, 2, 3])];
+
 /// Every entry that a run may call, family by family.
 pub fn families() -> impl Iterator<Item = &'static [Entry]> {
-    [&ENTRIES[..], &OPERATORS, &BUILDERS, &COVER, &EXTRACTORS].into_iter()
+    [&ENTRIES[..], &OPERATORS, &BUILDERS, &COVER, &EXTRACTORS, &WALK, &READER].into_iter()
 }
 
 /// How many first values of an entry are remembered.

@@ -1,10 +1,41 @@
 //! Times of the proved library beside the oracle's, for the benchmarks. A ratio is the oracle's time by ours: above 1, ours is the quicker one.
+use std::ffi::{c_int, c_long};
 use std::time::{Duration, Instant};
 
+#[repr(C)]
+struct Timespec {
+    seconds: i64,
+    nanos: c_long,
+}
+
+extern "C" {
+    fn clock_gettime(clock: c_int, time: *mut Timespec) -> c_int;
+}
+
+/// Linux's clock of a thread's own processor time.
+const THREAD_CLOCK: c_int = 3;
+
+/// The processor time that this thread has had.
+fn processor_time() -> Duration {
+    let mut time = Timespec { seconds: 0, nanos: 0 };
+    assert_eq!(unsafe { clock_gettime(THREAD_CLOCK, &mut time) }, 0, "this system has no clock for a thread");
+    Duration::new(time.seconds as u64, time.nanos as u32)
+}
+
+/// Reading the processor's clock takes too long for calls shorter than this.
+const SHORT: Duration = Duration::from_micros(100);
+
+/// A call's time; of a longer one its processor time, so that what else runs on the machine counts little.
 pub fn time(call: impl FnOnce()) -> Duration {
+    let processor = processor_time();
     let start = Instant::now();
     call();
-    start.elapsed()
+    let passed = start.elapsed();
+    if passed < SHORT {
+        passed
+    } else {
+        processor_time() - processor
+    }
 }
 
 /// The middle one, in seconds.
@@ -61,7 +92,11 @@ pub fn option(name: &str) -> Option<String> {
     std::env::args().skip_while(|argument| argument != name).nth(1)
 }
 
-/// Our side alone, again and again, for a profiler.
-pub fn run_ours(name: &str, times: usize, mut ours: impl FnMut() -> Duration) {
-    println!("{name}: {}", micros(middle((0..times).map(|_| ours()).collect())));
+/// Our side alone, again and again for a second at least, for a profiler.
+pub fn run_ours(name: &str, mut ours: impl FnMut() -> Duration) {
+    let (start, mut times) = (Instant::now(), vec![]);
+    while start.elapsed() < Duration::from_secs(1) {
+        times.push(ours());
+    }
+    println!("{name}: {}", micros(middle(times)));
 }

@@ -195,7 +195,7 @@ fn profile(buffers: &mut Buffers, wanted: &str) {
         for operator in Operator::ALL {
             let name = format!("{} of {}", operator.name(), pair.name());
             if name.contains(wanted) {
-                run_ours(&name, 2_000, || buffers.time(&call_on(operator, &pair, &words)));
+                run_ours(&name, || buffers.time(&call_on(operator, &pair, &words)));
             }
         }
     }

@@ -100,7 +100,7 @@ fn profile(buffers: &mut Buffers, name: &str) {
     for case in cases.filter(|case| case.name.contains(name)) {
         let words = case.builder.words(&case.clauses);
         let call = Build::whole(case.builder, case.n, &words);
-        run_ours(&case.name, 20, || buffers.time(&call));
+        run_ours(&case.name, || buffers.time(&call));
     }
 }
 
