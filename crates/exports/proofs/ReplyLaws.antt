@@ -11,7 +11,7 @@ use Rattle.refusal.specs.Buffers.{padded, outputAfter, workAfter}
 use Rattle.refusal.specs.Verdict.{Reply, Verdict, replied}
 use Rattle.refusal.proofs.Zeroing.{length-padded}
 use Rattle.exports.specs.declared.Written.{Written}
-use Rattle.exports.specs.Exports.{replyLength, replyWords, accepted, bufferWith, replyAfter, writtenWords, lentAfter, ExportedWork, Exported, ExportedPair}
+use Rattle.exports.specs.Exports.{replyLength, replyWords, accepted, bufferWith, replyAfter, writtenWords, lentAfter, ExportedWork, Exported, ExportedPair, partValues}
 
 -- five words stored at the front
 pub five-stored : (l : List ℕ) (w : Written) → replyLength ≤ length l
@@ -102,6 +102,11 @@ module _ (v : Verdict) (work reply : List ℕ) where
         → Exported v r out out′ work work′ reply reply′
     unfolding lentAfter
     exported-all out′ work′ reply′ r h o rest = record { rest = rest; output = rw (le-ltb (length reply) replyLength h) o }
+
+-- of no words there is neither a first nor a last
+pub no-part : (part : List ℕ) → length part ≡ 0 → partValues part ≡ 0 ∷ 0 ∷ 0 ∷ []
+no-part [] e = refl
+no-part (x ∷ part) e = absurd (let z : ⊥ = omega (arith, e) in z)
 
 -- two outputs
 module _ (v : Verdict) (first second reply : List ℕ) where

@@ -2,11 +2,12 @@
 use mathlib.Core.Path.{_≡_}
 use mathlib.Core.Bool.{cond}
 use mathlib.Core.List.{List, [], _∷_}
-use Prim.Native.Nat.{ℕ}
+use Prim.Native.Nat.{ℕ, _-_}
 use lib.Dec.{ltb}
-use lib.ListN.{length}
-use Rattle.refusal.specs.Verdict.{Verdict, Reply, replied}
+use lib.ListN.{length, getD}
+use Rattle.refusal.specs.Verdict.{Verdict, answered, Reply, replied}
 use Rattle.refusal.specs.Buffers.{padded, outputAfter, workAfter}
+use Rattle.posting.specs.Posting.{posting}
 use Rattle.exports.specs.declared.Written.{Written}
 
 -- the least length of a reply's buffer
@@ -53,3 +54,10 @@ pub record ExportedPair (v : Verdict) (r : ℕ) (first first′ second second′
   pub replies : reply′ ≡ replyAfter v reply
   pub output : first′ ≡ lentAfter reply (outputAfter 0 v first) first
   pub other : second′ ≡ lentAfter reply (outputAfter 1 v second) second
+
+-- a part of a list in three numbers: how many words, the first and the last
+abbrev pub partValues : List ℕ → List ℕ
+partValues part = length part ∷ getD part 0 0 ∷ getD part (length part - 1) 0 ∷ []
+
+abbrev pub posts : List ℕ → List ℕ → Verdict
+posts dnf cnf = answered (partValues (posting dnf cnf)) []

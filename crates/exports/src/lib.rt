@@ -16,6 +16,7 @@ use valuation::LastFixed;
 use valuation::Lookup;
 use valuation::Updated;
 use valuation::ValueList;
+use walk::PathStep;
 ghost use mathlib.Core.Path.{_≡_};
 ghost use Prim.Native.Nat.{_≤_};
 ghost use lib.ListN.{length};
@@ -39,8 +40,10 @@ ghost use Rattle.cover.specs.Cover.{coveredReply, checksCover};
 ghost use Rattle.listing.specs.Listed.{listedReply};
 ghost use Rattle.lists.specs.Lists.{listsDnf, listsCnf};
 ghost use Rattle.sheet.specs.Sheet.{sheetReply, readsSheet};
+ghost use Rattle.walk.specs.Reduced.{admitsWalk};
+ghost use Rattle.walk.specs.Walk.{pathStepReply, tells, walkClauses};
 ghost use Rattle.unary.specs.Unary.{marksReply, negates, restricts, supports, countsCases};
-ghost use Rattle.exports.specs.Exports.{Exported, ExportedWork, ExportedPair, replyLength, replyWords, accepted, bufferWith, replyAfter, writtenWords};
+ghost use Rattle.exports.specs.Exports.{Exported, ExportedWork, ExportedPair, partValues, posts, replyLength, replyWords, accepted, bufferWith, replyAfter, writtenWords};
 
 // The least length of a reply's buffer.
 const REPLY_WORDS: usize = 64;
@@ -210,6 +213,26 @@ fn sheet_written(read: SheetRead) -> Written
         SheetRead::Table(s) => triple_written(3, s.n as u64, s.count as u64),
         SheetRead::Refused(r) => refusal_written(r),
     }
+}
+
+fn step_written(step: PathStep) -> Written
+    ensures { λ w. ⌜ writtenWords w ≡ padded (replyWords (pathStepReply step)) 5 ⌝ }
+{
+    match step {
+        PathStep::Clause(v) => triple_written(1, v.fixed, v.values),
+        PathStep::Ended => value_written(0),
+    }
+}
+
+// How many words a part has, with the first and the last of them.
+fn part_written(part: &[u64]) -> Written
+    ensures { λ w. ⌜ writtenWords w ≡ padded (replyWords (gives (partValues (now (part .entry))))) 5 ⌝ }
+{
+    let count = part.len();
+    if count == 0 {
+        return triple_written(0, 0, 0);
+    }
+    triple_written(count as u64, part[0], part[count - 1])
 }
 
 fn made_written(made: Made) -> Written
@@ -736,4 +759,36 @@ pub extern "C" fn collartug_read_sheet(
     }
     let read = sheet::read_sheet(bytes, clauses, nodes);
     write_reply(reply, sheet_written(read))
+}
+
+#[no_mangle]
+pub extern "C" fn collartug_walk_check(n: u16, count: usize, bdd: &[u32], reply: &mut [u64]) -> u64
+    ensures { λ r. ⌜ (r ≡ accepted (now (reply .entry))) × (now (reply .exit) ≡ replyAfter (admitsWalk n count (now (bdd .entry))) (now (reply .entry))) ⌝ }
+{
+    write_reply(reply, inspection_written(walk::walk_check(n, count, bdd)))
+}
+
+#[no_mangle]
+pub extern "C" fn collartug_kth_step(
+    n: u16,
+    count: usize,
+    bdd: &[u32],
+    k: u32,
+    reply: &mut [u64],
+) -> u64
+    ensures { λ r. ⌜ (r ≡ accepted (now (reply .entry))) × (now (reply .exit) ≡ replyAfter (tells (walkClauses n count (now (bdd .entry))) k) (now (reply .entry))) ⌝ }
+{
+    write_reply(reply, step_written(walk::kth_step(n, count, bdd, k)))
+}
+
+// A part of the caller's own words cannot cross: its length, its first and its last word do.
+#[no_mangle]
+pub extern "C" fn collartug_choose_posting<'a>(
+    dnf: &'a [u64],
+    cnf: &'a [u64],
+    reply: &mut [u64],
+) -> u64
+    ensures { λ r. ⌜ (r ≡ accepted (now (reply .entry))) × (now (reply .exit) ≡ replyAfter (posts (now (dnf .entry)) (now (cnf .entry))) (now (reply .entry))) ⌝ }
+{
+    write_reply(reply, part_written(posting::choose_posting(dnf, cnf)))
 }

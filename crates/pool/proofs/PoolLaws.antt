@@ -1,11 +1,13 @@
 -- Laws of finding and making a node.
-use mathlib.Core.Path.{_≡_, sym, ap, subst, _∙_}
-use mathlib.Core.Bool.{true, false, cond}
+use mathlib.Core.Path.{_≡_, refl, sym, ap, subst, _∙_}
+use mathlib.Core.Bool.{Bool, true, false, cond, _&&_}
 use mathlib.Core.List.{List, [], _∷_, _++_}
 use mathlib.Core.Logic.{_⊎_, inl, inr}
 use Prim.Native.Nat.{ℕ, suc, _+_, _<_, _≤_}
 use native.Mathlib.Omega.{arith}
+use lib.Dec.{eqb}
 use lib.ListN.{length, getD, length-append}
+use borrow.Author.Tests.{ne-eqb}
 use Rattle.theory.specs.Table.{Node, node, Table, at, same, find, grow, mk}
 use Rattle.theory.specs.Words.{nodes, withNode}
 use Rattle.theory.proofs.Step.{inner}
@@ -19,6 +21,14 @@ use Rattle.pool.specs.Pool.{Hit, Miss, Searched, Pushing, Noding, Holds,
 
 pub differs : (x y : Node) → same x y ≡ false → x ≡ y → ⊥
 differs x y f e = let z : _≡_ {A = ℕ} 1 0 = ap (λ b. cond b 1 0) (sym (same-refl x) ∙ ap (same x) e ∙ f) in omega arith
+
+-- another low link tells two nodes apart
+pub low-tells : (x : Node) (v p q low : ℕ) → low ≡ x .low → (low ≡ p → ⊥) → false ≡ same x (node v p q)
+low-tells x v p q low el ne = rw (← el, ne-eqb low p ne) (middle (eqb (x .mark) v) (eqb (x .high) q))
+  where
+    middle : (a c : Bool) → false ≡ a && false && c
+    middle true c = refl
+    middle false c = refl
 
 -- a push changes nothing from the room on
 pub beyond-push : (room k v p q : ℕ) (w w′ : List ℕ) → k < room → w′ ≡ withNode w k v p q → Beyond room w w′

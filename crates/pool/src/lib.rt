@@ -2,8 +2,8 @@
 ghost use mathlib.Core.Path.{_≡_};
 ghost use Prim.Native.Nat.{_+_, _*_, _<_, _≤_, max};
 ghost use lib.ListN.{length};
-ghost use Rattle.theory.specs.Table.{mk};
-ghost use Rattle.theory.specs.Words.{stride, nodes};
+ghost use Rattle.theory.specs.Table.{node, same, mk};
+ghost use Rattle.theory.specs.Words.{stride, nodeAt, nodes};
 ghost use Rattle.making.specs.Made.{Beyond};
 ghost use Rattle.pool.specs.Pool.{Searched, Noding, Answers, Pushing, pushed};
 use table::BddPointer;
@@ -26,6 +26,23 @@ fn greater(low: BddPointer, high: BddPointer) -> u32
     if low.0 < high.0 { high.0 } else { low.0 }
 }
 
+// Node p has that mark and those links. The low link is looked at first: it tells most nodes apart.
+fn is_node(
+    bdd: &[u32],
+    p: BddPointer,
+    variable: BddVariable,
+    low: BddPointer,
+    high: BddPointer,
+) -> bool
+    requires { ⌜ stride * p .0 + 2 < length (now bdd) ⌝ }
+    ensures { λ r. ⌜ r ≡ same (nodeAt (now (bdd .entry)) (p .0)) (node (variable .0) (low .0) (high .0)) ⌝ }
+{
+    if table::low_link_of(bdd, p).0 != low.0 {
+        return false;
+    }
+    table::same_node(bdd, p, variable, low, high)
+}
+
 // The node with that mark and those links, which stands above both.
 pub fn find_node(
     bdd: &[u32],
@@ -40,7 +57,7 @@ pub fn find_node(
     let top = greater(low, high);
     let mut i = top + 1;
     while i < count {
-        if table::same_node(bdd, BddPointer(i), variable, low, high) {
+        if is_node(bdd, BddPointer(i), variable, low, high) {
             return Found::At(BddPointer(i));
         }
         i += 1;

@@ -4,7 +4,7 @@ use crate::proved::Room;
 
 extern "C" {
     fn collartug_walk_check(n: u16, count: usize, nodes: *const u32, nodes_len: usize, reply: *mut u64, reply_len: usize) -> u64;
-    fn collartug_kth_step(n: u16, count: usize, nodes: *const u32, nodes_len: usize, k: u64, reply: *mut u64, reply_len: usize) -> u64;
+    fn collartug_kth_step(n: u16, count: usize, nodes: *const u32, nodes_len: usize, k: u32, reply: *mut u64, reply_len: usize) -> u64;
 }
 
 pub fn walk_check(room: Room, n: u16, count: usize, nodes: &[u32]) -> Outcome {
@@ -12,6 +12,6 @@ pub fn walk_check(room: Room, n: u16, count: usize, nodes: &[u32]) -> Outcome {
 }
 
 /// Step k of a fresh walk, counted from 0.
-pub fn kth_step(room: Room, n: u16, count: usize, nodes: &[u32], k: u64) -> Outcome {
+pub fn kth_step(room: Room, n: u16, count: usize, nodes: &[u32], k: u32) -> Outcome {
     room.call(|reply, len| unsafe { collartug_kth_step(n, count, nodes.as_ptr(), nodes.len(), k, reply, len) })
 }

@@ -25,11 +25,11 @@ add-i c = record { fits = omega (arith, c .greater .ensures, c .before .before .
 loop-holds : tie.Need-loop-holds Inv-loop μ-loop
 loop-holds c = (omega arith, omega (arith, c .greater .ensures, c .before .before .pre .1, c .before .before .pre .2), c .greater .ensures, λ j a b. absurd (omega arith))
 
-same-node-requires : tie.Need-same-node-requires Inv-loop μ-loop
-same-node-requires c κs = omega arith
+is-node-requires : tie.Need-is-node-requires Inv-loop μ-loop
+is-node-requires c κs = omega arith
 
 returns : tie.Need-returns Inv-loop μ-loop
-returns c = record { below = search needs; same = same-eq _ _ (sym (c .before .same-node .ensures) ∙ c .if1 .taken) }
+returns c = record { below = search needs; same = same-eq _ _ (sym (c .before .is-node .ensures) ∙ c .if1 .taken) }
 
 add-i-2 : tie.Need-add-i-2 Inv-loop μ-loop
 add-i-2 c = omega arith
@@ -47,7 +47,7 @@ loop-again c =
         | yes h ↦ i .3 j a h
         | no h ↦ λ e.
             let z : c .before .before .before .loop .i ≡ j = omega arith in
-            differs _ _ (sym (c .before .same-node .ensures) ∙ c .if1 .left) (ap (nodeAt (c .before .before .before .before .before .before .args .bdd .now)) z ∙ e)
+            differs _ _ (sym (c .before .is-node .ensures) ∙ c .if1 .left) (ap (nodeAt (c .before .before .before .before .before .before .args .bdd .now)) z ∙ e)
       ],
     )
 
@@ -63,7 +63,7 @@ find-node-spec =
     greater-requires
     add-i
     loop-holds
-    same-node-requires
+    is-node-requires
     returns
     add-i-2
     loop-less

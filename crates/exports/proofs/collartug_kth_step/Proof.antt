@@ -1,0 +1,29 @@
+use Rattle.exports.proofs.ReplyLaws.{exported}
+use borrow.Author.Needs.{needs}
+use Rattle.exports.proofs.collartug_kth_step.Statement.{statement}
+use Rattle.exports.proofs.collartug_kth_step.Tie as tie
+
+kth-step-requires : tie.Need-kth-step-requires
+kth-step-requires c κs = search needs
+
+step-written-requires : tie.Need-step-written-requires
+step-written-requires c κs = search needs
+
+write-reply-requires : tie.Need-write-reply-requires
+write-reply-requires c κs = search needs
+
+same-length : tie.Need-same-length
+same-length c = search needs
+
+returns : tie.Need-returns
+returns c = exported _ _ _ _ _ _ (c .before .before .write-reply .ensures) (c .before .before .before .step-written .ensures) (c .before .before .before .before .kth-step .ensures)
+
+pub collartug-kth-step-spec : {M : Type 1} → statement M
+collartug-kth-step-spec =
+    tie.close
+    (tie.spec
+    kth-step-requires
+    step-written-requires
+    write-reply-requires
+    same-length
+    returns)

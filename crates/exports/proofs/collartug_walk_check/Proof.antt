@@ -1,0 +1,29 @@
+use Rattle.exports.proofs.ReplyLaws.{exported}
+use borrow.Author.Needs.{needs}
+use Rattle.exports.proofs.collartug_walk_check.Statement.{statement}
+use Rattle.exports.proofs.collartug_walk_check.Tie as tie
+
+walk-check-requires : tie.Need-walk-check-requires
+walk-check-requires c κs = search needs
+
+inspection-written-requires : tie.Need-inspection-written-requires
+inspection-written-requires c κs = search needs
+
+write-reply-requires : tie.Need-write-reply-requires
+write-reply-requires c κs = search needs
+
+same-length : tie.Need-same-length
+same-length c = search needs
+
+returns : tie.Need-returns
+returns c = exported _ _ _ _ _ _ (c .before .before .write-reply .ensures) (c .before .before .before .inspection-written .ensures) (c .before .before .before .before .walk-check .ensures)
+
+pub collartug-walk-check-spec : {M : Type 1} → statement M
+collartug-walk-check-spec =
+    tie.close
+    (tie.spec
+    walk-check-requires
+    inspection-written-requires
+    write-reply-requires
+    same-length
+    returns)
