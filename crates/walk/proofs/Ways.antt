@@ -81,9 +81,9 @@ module _ (w : List ℕ) where
   kept-behind p x (suc m) = elim (canTurn w (on x m) (on x (suc m)))
       as (λ v. (cond v (suc m) (kept w x m) ≡ 0 → cond v (suc (suc m)) (kept w (p ∷ x) (suc m)) ≡ cond (canTurn w (p .0) (on x 0)) 1 0)
       × ((i : ℕ) → cond v (suc m) (kept w x m) ≡ suc i → cond v (suc (suc m)) (kept w (p ∷ x) (suc m)) ≡ suc (suc i))) [
-    | true ↦ (λ e. absurd (let z : ⊥ = omega arith in z), λ i e. ap suc e)
-    | false ↦ kept-behind p x m
-  ]
+        | true ↦ (λ e. absurd (let z : ⊥ = omega arith in z), λ i e. ap suc e)
+        | false ↦ kept-behind p x m
+      ]
 
   -- the path after one that is a node longer
   abbrev turnedAt : ℕ → ℕ → Path
