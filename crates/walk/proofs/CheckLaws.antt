@@ -1,6 +1,6 @@
 -- The check of a walk's start: inspection, then REDUCED exactly for a sound table that is not reduced.
 use mathlib.Core.Path.{_≡_, refl, sym, ap, _∙_}
-use mathlib.Core.Logic.{_⊎_, inl, inr}
+use mathlib.Core.Logic.{_≢_, _⊎_, inl, inr}
 use mathlib.Core.Bool.{Bool, true, false, cond}
 use mathlib.Core.List.{List, [], _∷_}
 use Prim.Native.Nat.{ℕ, _-_, _≤_, _<_}
@@ -10,7 +10,7 @@ use lib.Dec.{ltb}
 use borrow.Author.Tests.{lt-ltb, le-ltb}
 use Rattle.theory.specs.Table.{Reduced}
 use Rattle.theory.specs.Words.{nodes}
-use Rattle.refusal.specs.Number.{order, REDUCED}
+use Rattle.refusal.specs.Number.{order, LIMIT, SHORT, TABLE, REDUCED}
 use Rattle.refusal.specs.Verdict.{Verdict, refused, answered, firstOf, tried, judged, replied, refusedWith, gives, Reply}
 use Rattle.refusal.specs.declared.Refusal.{Refusal}
 use Rattle.refusal.proofs.Firsts.{first-before, first-fails}
@@ -18,7 +18,7 @@ use Rattle.refusal.proofs.Judged.{Clean, Caught, judged-either}
 use Rattle.table.specs.declared.BddPointer.{BddPointer}
 use Rattle.table.specs.declared.Inspection.{Inspection}
 use Rattle.table.specs.declared.Inspection.the-variants.{Sound, Refused}
-use Rattle.table.specs.Inspection.{inspectionReply, refusalIn, tableFindings, rootOf, inspects, SoundTable}
+use Rattle.table.specs.Inspection.{inspectionReply, refusalIn, overLimit, tooShort, firstBad, tableFindings, rootOf, inspects, SoundTable}
 use Rattle.table.proofs.AdmissionLaws.{admission-refused, admission-clean}
 use Rattle.table.proofs.Inspected.{inspects-sound, sound-inspects}
 use Rattle.walk.specs.Reduced.{nodeReduced, firstUnreduced, admitsWalk}
@@ -87,6 +87,24 @@ module _ (n count : ℕ) (w : List ℕ) where
       → (nodeReduced n (nodes count w) (firstUnreduced n count w) ≡ false) × ((i : ℕ) → i < firstUnreduced n count w → nodeReduced n (nodes count w) i ≡ true)
   unfolding firstUnreduced
   unreduced-lowest h = (first-fails (nodeReduced n (nodes count w)) count h, first-before (nodeReduced n (nodes count w)) count)
+
+  -- no refusal has the number 0
+  number-of : Verdict → ℕ
+  number-of (refused k p) = k
+  number-of (answered vs outs) = 1
+
+  some-number : (a b c d : Bool) (f g k p : ℕ) (vs : List ℕ) (outs : List (List ℕ))
+      → cond a (refused LIMIT 0) (cond b (refused SHORT 0) (cond c (refused TABLE f) (cond d (refused REDUCED g) (answered vs outs)))) ≡ refused k p → k ≢ 0
+  unfolding number-of
+  some-number true b c d f g k p vs outs e z = omega (arith, ap number-of e)
+  some-number false true c d f g k p vs outs e z = omega (arith, ap number-of e)
+  some-number false false true d f g k p vs outs e z = omega (arith, ap number-of e)
+  some-number false false false true f g k p vs outs e z = omega (arith, ap number-of e)
+  some-number false false false false f g k p vs outs e z = omega (arith, ap number-of e)
+
+  pub refused-number : (number place : ℕ) → admitsWalk n count w ≡ refused number place → number ≢ 0
+  unfolding admitsWalk judged tried order firstOf
+  refused-number number place e = some-number (overLimit n count) (tooShort count w) (ltb (firstBad n count w) count) (ltb (firstUnreduced n count w) count) (firstBad n count w) (firstUnreduced n count w) number place _ _ e
 
   -- admitted as sound and reduced, or refused with a number and a place
   pub record Stopped : Type 0 where

@@ -6,19 +6,20 @@ use mathlib.Core.List.{List, [], _∷_}
 use Prim.Native.Nat.{ℕ, zero, suc, _-_, _≤_, _<_}
 use native.Mathlib.Omega.{arith}
 use lib.ListN.{length, getD}
+use borrow.Author.Tests.{ne-eqb}
 use Rattle.theory.specs.Table.{Reduced}
 use Rattle.theory.specs.Words.{nodes}
 use Rattle.theory.specs.Clause.{Clause, emptyClause}
 use Rattle.theory.proofs.Words.{length-nodes}
 use Rattle.refusal.specs.Verdict.{Verdict, refused, answered}
-use Rattle.table.specs.Inspection.{SoundTable}
+use Rattle.table.specs.Inspection.{rootOf, SoundTable}
 use Rattle.paths.specs.Paths.{pathList}
 use Rattle.walk.specs.declared.PathState.{PathState}
 use Rattle.walk.specs.declared.PathStart.{PathStart}
 use Rattle.walk.specs.Reduced.{admitsWalk}
 use Rattle.walk.specs.Path.{kept, turned, pathNext, firstPath, inArray, stateOf, held, Held}
 use Rattle.walk.specs.Walk.{ended, yields, stepOf, nextPath, startBy, startOf, heldWords, wordsOf, pathOf, pathAfter, kthStep, tells, clausesBy, walkClauses}
-use Rattle.walk.proofs.CheckLaws.{Stopped, Admitted, walk-either, reduced-admits}
+use Rattle.walk.proofs.CheckLaws.{Stopped, Admitted, walk-either, reduced-admits, refused-number}
 use Rattle.walk.proofs.PathLaws.{held-is}
 use Rattle.walk.proofs.Ways.{walk-holds, walk-tells}
 
@@ -83,6 +84,22 @@ module _ (n count : ℕ) (w : List ℕ) where
         (subst⁻¹ (λ v. Held v (pathAfter k w (stateOf (firstPath w (count - 1))))) (admitted-words m) (walk-holds w n count (m .reduced) (m .sound .marks) (m .sound .long) (count - 1) (lies m) (last m) k))
     | inr m ↦ record { way = []; is = stopped-after m k; right = inl refl }
   ]
+
+  -- a refused start: number and place of the refusal, none of the words, no path; an admitted one: the first path over the whole words
+  pub start-refused : (number place : ℕ) → admitsWalk n count w ≡ refused number place
+      → (startOf n count w ≡ record { number = number; place = place; len = 0; path = inArray [] }) × (wordsOf n count w ≡ [])
+  unfolding startOf startBy heldWords
+  start-refused number place e = (
+    ap (λ v. startBy v (firstPath w (count - 1))) e,
+    ap (λ v. heldWords ((startBy v (firstPath w (count - 1))) .number) w) e ∙ rw (ne-eqb number 0 (refused-number n count w number place e)),
+  )
+
+  pub start-admitted : SoundTable n count w (count - 1) → Reduced n (nodes count w)
+      → (startOf n count w ≡ record { number = 0; place = 0; len = length (firstPath w (count - 1)); path = inArray (firstPath w (count - 1)) }) × (wordsOf n count w ≡ w)
+  unfolding startOf startBy heldWords
+  start-admitted t r =
+      let e : admitsWalk n count w ≡ rootOf count = reduced-admits n count w t r in
+      (ap (λ v. startBy v (firstPath w (count - 1))) e, ap (λ v. heldWords ((startBy v (firstPath w (count - 1))) .number) w) e)
 
   -- the clauses of a walk that is not refused are the table's path list, and of one that is there are none
   pub reduced-clauses : SoundTable n count w (count - 1) → Reduced n (nodes count w) → walkClauses n count w ≡ pathList true n (nodes count w)

@@ -9,3 +9,4 @@ pub mod Ways
 pub mod KthLaws
 pub mod Sounds
 pub mod WalkSingle
+pub mod Examples

@@ -2,8 +2,8 @@
 // slices and numbers; the struct's own functions only take it apart and put it together.
 ghost use mathlib.Core.Path.{_≡_};
 ghost use mathlib.Core.List.{_++_};
-ghost use Prim.Native.Nat.{_+_, _*_, _<_, _≤_, _-_, suc};
-ghost use lib.ListN.{length, getD, replicate, take};
+ghost use Prim.Native.Nat.{_+_, _*_, _<_, _≤_, _-_};
+ghost use lib.ListN.{length, replicate, take};
 ghost use Rattle.theory.specs.Table.{Reduced};
 ghost use Rattle.theory.specs.Words.{stride, nodeAt, nodes};
 ghost use Rattle.refusal.specs.Limits.{maxMarks, maxNodes};
@@ -11,18 +11,14 @@ ghost use Rattle.refusal.specs.Verdict.{replied};
 ghost use Rattle.table.specs.Inspection.{inspectionReply, SoundTable};
 ghost use Rattle.valuation.specs.Valuation.{clauseOf};
 ghost use Rattle.walk.specs.Reduced.{repeated, nodeReduced, firstUnreduced, admitsWalk, linksMarked, Marked};
-ghost use Rattle.walk.specs.Path.{pointer, onward, firstFrom, firstPath, canTurn, kept, clauseAlong, places, stateOf, held, Held, Descending};
+ghost use Rattle.walk.specs.Path.{onward, firstFrom, firstPath, canTurn, kept, clauseAlong, places, stateOf, held, Held, Descending};
 ghost use Rattle.walk.specs.Walk.{pathStepReply, stepOf, nextPath, startOf, wordsOf, heldWords, startIn, pathIn, refusalIn, moved, tells, walkClauses, FromStart};
 use pool::Found;
-use refusal::MAX_NODES;
 use refusal::REDUCED;
 use refusal::Refusal;
 use table::BddPointer;
 use table::Inspection;
 use valuation::BddPartialValuation;
-
-// The most nodes on a path: one for each mark, and the constant.
-pub const PATH_PLACES: usize = 61;
 
 // What a step says.
 pub enum PathStep {
@@ -30,7 +26,7 @@ pub enum PathStep {
     Ended,
 }
 
-// Inner: the first `len` places of `path` are the nodes from the root to node 1.
+// Inner: the first `len` places of `path` are the nodes from the root to node 1. There is a place for each mark, and one for the constant.
 pub struct PathState {
     pub len: u32,
     pub path: [BddPointer; 61],
@@ -100,6 +96,7 @@ fn is_repeated(n: u16, count: usize, bdd: &[u32], root: BddPointer, p: BddPointe
     }
 }
 
+// Node p is as a reduced table has it: different links, no earlier triple, reachable.
 fn node_reduced(
     n: u16,
     count: usize,
@@ -139,6 +136,7 @@ fn first_unreduced(n: u16, count: usize, bdd: &[u32], root: BddPointer, marks: &
     count
 }
 
+// The same, with the reachable nodes marked first.
 fn lowest_unreduced(n: u16, count: usize, bdd: &[u32], root: BddPointer) -> usize
     requires { ⌜ SoundTable n count (now bdd) (root .0) ⌝ }
     ensures { λ r. ⌜ r ≡ firstUnreduced n count (now (bdd .entry)) ⌝ }
