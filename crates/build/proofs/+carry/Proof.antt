@@ -36,30 +36,62 @@ abbrev told : ℕ → carry-lts.Claims
 told t = (recall-reads.Asked, recall-reads.Learnt, var-of-reads.Asked, var-of-reads.Learnt, low-link-of-reads.Asked, low-link-of-reads.Learnt, high-link-of-reads.Asked, high-link-of-reads.Learnt, below t, carry.Post, push-node-reads.Asked, push-node-reads.Learnt, keep-reads.Asked, keep-reads.Learnt)
 
 module _ (t : ℕ) where
-  two : (c : carry-lts.After-high-link-of (told t) (at t) carry.Post) → 2 ≤ c .before .before .before .before .before .before .before .before .before .before .before .before .before .before .args .p .0
+  -- from the node pushed back to the high side's answer, to the low side's, to the links read, to the start
+  abbrev high-of : carry-lts.After-known-told4 (told t) (at t) carry.Post → carry-lts.After-known-told3 (told t) (at t) carry.Post
+  high-of c = c .before .before .before .before .before .before .before
+
+  abbrev low-of : carry-lts.After-known-told3 (told t) (at t) carry.Post → carry-lts.After-known-told2 (told t) (at t) carry.Post
+  low-of c = c .before .before .before .before .before .before .before .before .before .before
+
+  abbrev node-of : carry-lts.After-known-told2 (told t) (at t) carry.Post → carry-lts.After-high-link-of (told t) (at t) carry.Post
+  node-of c = c .before .before .before .before .before .before .before .before .before .before
+
+  abbrev start-of : carry-lts.After-high-link-of (told t) (at t) carry.Post → carry-lts.Start (told t) (at t) carry.Post
+  start-of c = c .before .before .before .before .before .before .before .before .before .before .before .before .before .before
+
+  two : (c : carry-lts.After-high-link-of (told t) (at t) carry.Post) → let start = start-of c in
+      2 ≤ start .args .p .0
   two c = omega (arith, c .before .before .before .before .before .before .before .before .before .before .if1 .left)
 
-  unknown : (c : carry-lts.After-high-link-of (told t) (at t) carry.Post) → getD (c .before .before .before .before .before .before .before .before .before .before .before .before .before .before .args .work .now) (3 * c .before .before .before .before .before .before .before .before .before .before .before .before .before .before .args .goal .cap + c .before .before .before .before .before .before .before .before .before .before .before .before .before .before .args .p .0) 0 / memoBase ≡ c .before .before .before .before .before .before .before .before .before .before .before .before .before .before .args .goal .stamp → ⊥
-  unknown c = subst (λ z. Recalls (getD (c .before .before .before .before .before .before .before .before .before .before .before .before .before .before .args .work .now) (3 * c .before .before .before .before .before .before .before .before .before .before .before .before .before .before .args .goal .cap + c .before .before .before .before .before .before .before .before .before .before .before .before .before .before .args .p .0) 0) (c .before .before .before .before .before .before .before .before .before .before .before .before .before .before .args .goal .stamp) z) (c .before .before .before .before .before .before .enum-told .given .1) (c .before .before .before .before .before .before .before .before .recall .ensures)
+  unknown : (c : carry-lts.After-high-link-of (told t) (at t) carry.Post) → let start = start-of c in
+      getD (start .args .work .now) (3 * start .args .goal .cap + start .args .p .0) 0 / memoBase ≡ start .args .goal .stamp → ⊥
+  unknown c =
+      let start = start-of c in
+      subst (λ z. Recalls (getD (start .args .work .now) (3 * start .args .goal .cap + start .args .p .0) 0) (start .args .goal .stamp) z) (c .before .before .before .before .before .before .enum-told .given .1) (c .before .before .before .before .before .before .before .before .recall .ensures)
 
-  low-is : (c : carry-lts.After-known-told2 (told t) (at t) carry.Post) → Carried (c .before .before .before .before .before .before .before .before .before .before .before .before .before .before .before .before .before .before .before .before .before .before .before .before .args .work .now) (c .before .before .before .before .before .before .before .carry .last .0) (c .before .before .before .before .before .before .before .before .before .before .before .before .before .before .before .before .before .before .before .before .before .before .before .before .args .out .now) (c .before .before .before .before .before .before .before .carry .last .1 .0) (c .before .before .before .before .before .before .before .before .before .before .before .before .before .before .before .before .before .before .before .before .before .before .before .before .args .goal) (c .before .before .before .before .before .before .before .before .before .before .before .before .before .before .before .before .before .before .before .before .before .before .before .before .args .count) (c .before .before .before .before .before .before .before .before .before .before .before .before .before .before .before .before .before .before .before .before .before .before .before .before .args .made) (c .before .before .before .before .before .before .before .before .before .before .before .before .low-link-of .result .0) (c .before .lo .given .0 .0 .0) (c .before .lo .given .0 .1 .0)
-  low-is c = subst (λ z. Carries (c .before .before .before .before .before .before .before .before .before .before .before .before .before .before .before .before .before .before .before .before .before .before .before .before .args .work .now) (c .before .before .before .before .before .before .before .carry .last .0) (c .before .before .before .before .before .before .before .before .before .before .before .before .before .before .before .before .before .before .before .before .before .before .before .before .args .out .now) (c .before .before .before .before .before .before .before .carry .last .1 .0) (c .before .before .before .before .before .before .before .before .before .before .before .before .before .before .before .before .before .before .before .before .before .before .before .before .args .goal) (c .before .before .before .before .before .before .before .before .before .before .before .before .before .before .before .before .before .before .before .before .before .before .before .before .args .count) (c .before .before .before .before .before .before .before .before .before .before .before .before .before .before .before .before .before .before .before .before .before .before .before .before .args .made) (c .before .before .before .before .before .before .before .before .before .before .before .before .low-link-of .result .0) z) (c .before .lo .given .1) (c .before .before .before .before .before .before .before .carry .ensures)
+  low-is : (c : carry-lts.After-known-told2 (told t) (at t) carry.Post) → let node = node-of c in let start = start-of node in
+      Carried (start .args .work .now) (c .before .before .before .before .before .before .before .carry .last .0) (start .args .out .now) (c .before .before .before .before .before .before .before .carry .last .1 .0) (start .args .goal) (start .args .count) (start .args .made) (node .before .before .low-link-of .result .0) (c .before .lo .given .0 .0 .0) (c .before .lo .given .0 .1 .0)
+  low-is c =
+      let node = node-of c in
+      let start = start-of node in
+      subst (λ z. Carries (start .args .work .now) (c .before .before .before .before .before .before .before .carry .last .0) (start .args .out .now) (c .before .before .before .before .before .before .before .carry .last .1 .0) (start .args .goal) (start .args .count) (start .args .made) (node .before .before .low-link-of .result .0) z) (c .before .lo .given .1) (c .before .before .before .before .before .before .before .carry .ensures)
 
-  high-is : (c : carry-lts.After-known-told3 (told t) (at t) carry.Post) → Carried (c .before .before .before .before .before .before .before .before .before .before .before .before .before .before .before .before .before .carry .last .0) (c .before .before .before .before .before .before .before .carry2 .last .0) (c .before .before .before .before .before .before .before .before .before .before .before .before .before .before .before .before .before .carry .last .1 .0) (c .before .before .before .before .before .before .before .carry2 .last .1 .0) (c .before .before .before .before .before .before .before .before .before .before .before .before .before .before .before .before .before .before .before .before .before .before .before .before .before .before .before .before .before .before .before .before .before .before .args .goal) (c .before .before .before .before .before .before .before .before .before .before .before .before .before .before .before .before .before .before .before .before .before .before .before .before .before .before .before .before .before .before .before .before .before .before .args .count) (c .before .before .before .before .before .before .before .before .before .before .before .lo .given .0 .1 .0) (c .before .before .before .before .before .before .before .before .before .before .before .before .before .before .before .before .before .before .before .before .high-link-of .result .0) (c .before .hi .given .0 .0 .0) (c .before .hi .given .0 .1 .0)
-  high-is c = subst (λ z. Carries (c .before .before .before .before .before .before .before .before .before .before .before .before .before .before .before .before .before .carry .last .0) (c .before .before .before .before .before .before .before .carry2 .last .0) (c .before .before .before .before .before .before .before .before .before .before .before .before .before .before .before .before .before .carry .last .1 .0) (c .before .before .before .before .before .before .before .carry2 .last .1 .0) (c .before .before .before .before .before .before .before .before .before .before .before .before .before .before .before .before .before .before .before .before .before .before .before .before .before .before .before .before .before .before .before .before .before .before .args .goal) (c .before .before .before .before .before .before .before .before .before .before .before .before .before .before .before .before .before .before .before .before .before .before .before .before .before .before .before .before .before .before .before .before .before .before .args .count) (c .before .before .before .before .before .before .before .before .before .before .before .lo .given .0 .1 .0) (c .before .before .before .before .before .before .before .before .before .before .before .before .before .before .before .before .before .before .before .before .high-link-of .result .0) z) (c .before .hi .given .1) (c .before .before .before .before .before .before .before .carry2 .ensures)
+  high-is : (c : carry-lts.After-known-told3 (told t) (at t) carry.Post) → let low = low-of c in let node = node-of low in let start = start-of node in
+      Carried (low .before .before .before .before .before .before .before .carry .last .0) (c .before .before .before .before .before .before .before .carry2 .last .0) (low .before .before .before .before .before .before .before .carry .last .1 .0) (c .before .before .before .before .before .before .before .carry2 .last .1 .0) (start .args .goal) (start .args .count) (low .before .lo .given .0 .1 .0) (node .high-link-of .result .0) (c .before .hi .given .0 .0 .0) (c .before .hi .given .0 .1 .0)
+  high-is c =
+      let low = low-of c in
+      let node = node-of low in
+      let start = start-of node in
+      subst (λ z. Carries (low .before .before .before .before .before .before .before .carry .last .0) (c .before .before .before .before .before .before .before .carry2 .last .0) (low .before .before .before .before .before .before .before .carry .last .1 .0) (c .before .before .before .before .before .before .before .carry2 .last .1 .0) (start .args .goal) (start .args .count) (low .before .lo .given .0 .1 .0) (node .high-link-of .result .0) z) (c .before .hi .given .1) (c .before .before .before .before .before .before .before .carry2 .ensures)
 
-  node-is : (c : carry-lts.After-known-told4 (told t) (at t) carry.Post) → Holds (pushed (c .before .before .before .before .before .before .before .before .before .before .before .before .before .before .carry2 .last .1 .0) (c .before .before .before .before .before .before .before .before .hi .given .0 .1 .0) (c .before .before .before .before .before .before .before .before .before .before .before .before .before .before .before .before .before .before .before .before .before .before .before .before .before .before .before .before .before .before .before .var-of .result .0) (c .before .before .before .before .before .before .before .before .before .before .before .before .before .before .before .before .before .before .lo .given .0 .0 .0) (c .before .before .before .before .before .before .before .before .hi .given .0 .0 .0)) (c .before .before .before .before .before .before .before .before .before .before .before .before .before .before .before .before .before .before .before .before .before .before .before .before .before .before .before .before .before .before .before .before .before .before .before .before .before .before .before .before .before .args .goal .room) (c .before .before .before .before .before .push-node .last .0) (c .before .noted .given .0 .0 .0) (c .before .noted .given .0 .1 .0)
-  node-is c = subst (λ z. Answers (pushed (c .before .before .before .before .before .before .before .before .before .before .before .before .before .before .carry2 .last .1 .0) (c .before .before .before .before .before .before .before .before .hi .given .0 .1 .0) (c .before .before .before .before .before .before .before .before .before .before .before .before .before .before .before .before .before .before .before .before .before .before .before .before .before .before .before .before .before .before .before .var-of .result .0) (c .before .before .before .before .before .before .before .before .before .before .before .before .before .before .before .before .before .before .lo .given .0 .0 .0) (c .before .before .before .before .before .before .before .before .hi .given .0 .0 .0)) (c .before .before .before .before .before .before .before .before .before .before .before .before .before .before .before .before .before .before .before .before .before .before .before .before .before .before .before .before .before .before .before .before .before .before .before .before .before .before .before .before .before .args .goal .room) (c .before .before .before .before .before .push-node .last .0) z) (c .before .noted .given .1) (c .before .before .before .before .before .push-node .ensures .0)
+  node-is : (c : carry-lts.After-known-told4 (told t) (at t) carry.Post) → let high = high-of c in let low = low-of high in let node = node-of low in let start = start-of node in
+      Holds (pushed (high .before .before .before .before .before .before .before .carry2 .last .1 .0) (high .before .hi .given .0 .1 .0) (node .before .before .before .before .var-of .result .0) (low .before .lo .given .0 .0 .0) (high .before .hi .given .0 .0 .0)) (start .args .goal .room) (c .before .before .before .before .before .push-node .last .0) (c .before .noted .given .0 .0 .0) (c .before .noted .given .0 .1 .0)
+  node-is c =
+      let high = high-of c in
+      let low = low-of high in
+      let node = node-of low in
+      let start = start-of node in
+      subst (λ z. Answers (pushed (high .before .before .before .before .before .before .before .carry2 .last .1 .0) (high .before .hi .given .0 .1 .0) (node .before .before .before .before .var-of .result .0) (low .before .lo .given .0 .0 .0) (high .before .hi .given .0 .0 .0)) (start .args .goal .room) (c .before .before .before .before .before .push-node .last .0) z) (c .before .noted .given .1) (c .before .before .before .before .before .push-node .ensures .0)
 
   returns : carry-lts.Need-returns (told t) (at t) carry.Post
   returns c =
-      let g = c .before .before .before .before in
-      carry-end _ _ _ _ _ _ (g .pre .1) (c .if1 .taken)
+      let start = c .before .before .before .before in
+      carry-end _ _ _ _ _ _ (start .pre .1) (c .if1 .taken)
 
   recall-requires : carry-lts.Need-recall-requires (told t) (at t) carry.Post
   recall-requires c κs =
-      let g = c .before .before .before .before .before in
-      (omega (arith, g .pre .1 .lies, g .pre .1 .fits, g .pre .1 .long), g .pre .1 .few)
+      let start = c .before .before .before .before .before in
+      (omega (arith, start .pre .1 .lies, start .pre .1 .fits, start .pre .1 .long), start .pre .1 .few)
 
   enum-known-known : carry-lts.Need-enum-known-known (told t) (at t) carry.Post
   enum-known-known c = search needs
@@ -69,32 +101,33 @@ module _ (t : ℕ) where
 
   returns-2 : carry-lts.Need-returns-2 (told t) (at t) carry.Post
   returns-2 c =
-      let g = c .before .before .before .before .before .before .before .before .before in
-      let e = subst (λ z. Recalls (getD (g .args .work .now) (3 * g .args .goal .cap + g .args .p .0) 0) (g .args .goal .stamp) z) (c .before .known .given .1) (c .before .before .before .recall .ensures) in
-      carry-memo _ _ _ _ _ _ (g .pre .1) _ (e .0) (e .1)
+      let start = c .before .before .before .before .before .before .before .before .before in
+      let e = subst (λ z. Recalls (getD (start .args .work .now) (3 * start .args .goal .cap + start .args .p .0) 0) (start .args .goal .stamp) z) (c .before .known .given .1) (c .before .before .before .recall .ensures) in
+      carry-memo _ _ _ _ _ _ (start .pre .1) _ (e .0) (e .1)
 
   enum-told : carry-lts.Need-enum-told (told t) (at t) carry.Post
   enum-told c = search needs
 
   var-of-requires : carry-lts.Need-var-of-requires (told t) (at t) carry.Post
   var-of-requires c κs =
-      let g = c .before .before .before .before .before .before .before .before .before in
-      (omega (arith, g .pre .1 .lies, g .pre .1 .fits, g .pre .1 .long), mark-small _ _ _ _ _ _ (g .pre .1))
+      let start = c .before .before .before .before .before .before .before .before .before in
+      (omega (arith, start .pre .1 .lies, start .pre .1 .fits, start .pre .1 .long), mark-small _ _ _ _ _ _ (start .pre .1))
 
   low-link-of-requires : carry-lts.Need-low-link-of-requires (told t) (at t) carry.Post
   low-link-of-requires c κs =
-      let g = c .before .before .before .before .before .before .before .before .before .before .before in
-      omega (arith, g .pre .1 .lies, g .pre .1 .fits, g .pre .1 .long)
+      let start = c .before .before .before .before .before .before .before .before .before .before .before in
+      omega (arith, start .pre .1 .lies, start .pre .1 .fits, start .pre .1 .long)
 
   high-link-of-requires : carry-lts.Need-high-link-of-requires (told t) (at t) carry.Post
   high-link-of-requires c κs =
-      let g = c .before .before .before .before .before .before .before .before .before .before .before .before .before in
-      omega (arith, g .pre .1 .lies, g .pre .1 .fits, g .pre .1 .long)
+      let start = c .before .before .before .before .before .before .before .before .before .before .before .before .before in
+      omega (arith, start .pre .1 .lies, start .pre .1 .fits, start .pre .1 .long)
 
   carry-requires : carry-lts.Need-carry-requires (told t) (at t) carry.Post
   carry-requires c κs =
-      let g = c .before .before .before .before .before .before .before .before .before .before .before .before .before .before .before .before in
-      (omega (arith, g .pre .0, x-lt _ _ _ _ _ _ (g .pre .1) (two (c .before .before)) _ _ _ (c .before .before .before .before .before .before .var-of .ensures) (c .before .before .before .before .low-link-of .ensures) (c .before .before .high-link-of .ensures) (unknown (c .before .before))), carrying-lo _ _ _ _ _ _ (g .pre .1) (two (c .before .before)) _ _ _ (c .before .before .before .before .before .before .var-of .ensures) (c .before .before .before .before .low-link-of .ensures) (c .before .before .high-link-of .ensures) (unknown (c .before .before)))
+      let node = c .before .before in
+      let start = start-of node in
+      (omega (arith, start .pre .0, x-lt _ _ _ _ _ _ (start .pre .1) (two node) _ _ _ (node .before .before .before .before .var-of .ensures) (node .before .before .low-link-of .ensures) (node .high-link-of .ensures) (unknown node)), carrying-lo _ _ _ _ _ _ (start .pre .1) (two node) _ _ _ (node .before .before .before .before .var-of .ensures) (node .before .before .low-link-of .ensures) (node .high-link-of .ensures) (unknown node))
 
   enum-known-lo : carry-lts.Need-enum-known-lo (told t) (at t) carry.Post
   enum-known-lo c = search needs
@@ -110,13 +143,16 @@ module _ (t : ℕ) where
 
   returns-3 : carry-lts.Need-returns-3 (told t) (at t) carry.Post
   returns-3 c =
-      let g = c .before .before .before .before .before .before .before .before .before .before .before .before .before .before .before .before .before .before .before .before .before .before .before in
-      full-lo _ _ _ _ _ _ (g .pre .1) (two (c .before .before .before .before .before .before .before .before .before)) _ _ _ (c .before .before .before .before .before .before .before .before .before .before .before .before .before .var-of .ensures) (c .before .before .before .before .before .before .before .before .before .before .before .low-link-of .ensures) (c .before .before .before .before .before .before .before .before .before .high-link-of .ensures) (unknown (c .before .before .before .before .before .before .before .before .before)) (subst (λ z. Carries (g .args .work .now) (c .before .before .before .before .before .before .carry .last .0) (g .args .out .now) (c .before .before .before .before .before .before .carry .last .1 .0) (g .args .goal) (g .args .count) (g .args .made) (c .before .before .before .before .before .before .before .before .before .before .before .low-link-of .result .0) z) (c .enum-told2 .given .1) (c .before .before .before .before .before .before .carry .ensures))
+      let node = c .before .before .before .before .before .before .before .before .before in
+      let start = start-of node in
+      full-lo _ _ _ _ _ _ (start .pre .1) (two node) _ _ _ (node .before .before .before .before .var-of .ensures) (node .before .before .low-link-of .ensures) (node .high-link-of .ensures) (unknown node) (subst (λ z. Carries (start .args .work .now) (c .before .before .before .before .before .before .carry .last .0) (start .args .out .now) (c .before .before .before .before .before .before .carry .last .1 .0) (start .args .goal) (start .args .count) (start .args .made) (node .before .before .low-link-of .result .0) z) (c .enum-told2 .given .1) (c .before .before .before .before .before .before .carry .ensures))
 
   carry-requires-2 : carry-lts.Need-carry-requires-2 (told t) (at t) carry.Post
   carry-requires-2 c κs =
-      let g = c .before .before .before .before .before .before .before .before .before .before .before .before .before .before .before .before .before .before .before .before .before .before .before .before .before .before in
-      (omega (arith, g .pre .0, y-lt _ _ _ _ _ _ (g .pre .1) (two (c .before .before .before .before .before .before .before .before .before .before .before .before)) _ _ _ (c .before .before .before .before .before .before .before .before .before .before .before .before .before .before .before .before .var-of .ensures) (c .before .before .before .before .before .before .before .before .before .before .before .before .before .before .low-link-of .ensures) (c .before .before .before .before .before .before .before .before .before .before .before .before .high-link-of .ensures) (unknown (c .before .before .before .before .before .before .before .before .before .before .before .before))), carrying-hi _ _ _ _ _ _ (g .pre .1) (two (c .before .before .before .before .before .before .before .before .before .before .before .before)) _ _ _ (c .before .before .before .before .before .before .before .before .before .before .before .before .before .before .before .before .var-of .ensures) (c .before .before .before .before .before .before .before .before .before .before .before .before .before .before .low-link-of .ensures) (c .before .before .before .before .before .before .before .before .before .before .before .before .high-link-of .ensures) (unknown (c .before .before .before .before .before .before .before .before .before .before .before .before)) _ _ _ _ (c .before .before .before .before .before .before .before .before .before .carry .kept .0) (c .before .before .before .before .before .before .before .before .before .carry .kept .1 .0) (low-is (c .before .before)))
+      let low = c .before .before in
+      let node = node-of low in
+      let start = start-of node in
+      (omega (arith, start .pre .0, y-lt _ _ _ _ _ _ (start .pre .1) (two node) _ _ _ (node .before .before .before .before .var-of .ensures) (node .before .before .low-link-of .ensures) (node .high-link-of .ensures) (unknown node)), carrying-hi _ _ _ _ _ _ (start .pre .1) (two node) _ _ _ (node .before .before .before .before .var-of .ensures) (node .before .before .low-link-of .ensures) (node .high-link-of .ensures) (unknown node) _ _ _ _ (low .before .before .before .before .before .before .before .carry .kept .0) (low .before .before .before .before .before .before .before .carry .kept .1 .0) (low-is low))
 
   enum-known-hi : carry-lts.Need-enum-known-hi (told t) (at t) carry.Post
   enum-known-hi c = search needs
@@ -132,13 +168,18 @@ module _ (t : ℕ) where
 
   returns-4 : carry-lts.Need-returns-4 (told t) (at t) carry.Post
   returns-4 c =
-      let g = c .before .before .before .before .before .before .before .before .before .before .before .before .before .before .before .before .before .before .before .before .before .before .before .before .before .before .before .before .before .before .before .before .before in
-      full-hi _ _ _ _ _ _ (g .pre .1) (two (c .before .before .before .before .before .before .before .before .before .before .before .before .before .before .before .before .before .before .before)) _ _ _ (c .before .before .before .before .before .before .before .before .before .before .before .before .before .before .before .before .before .before .before .before .before .before .before .var-of .ensures) (c .before .before .before .before .before .before .before .before .before .before .before .before .before .before .before .before .before .before .before .before .before .low-link-of .ensures) (c .before .before .before .before .before .before .before .before .before .before .before .before .before .before .before .before .before .before .before .high-link-of .ensures) (unknown (c .before .before .before .before .before .before .before .before .before .before .before .before .before .before .before .before .before .before .before)) _ _ _ _ (c .before .before .before .before .before .before .before .before .before .before .before .before .before .before .before .before .carry .kept .0) (c .before .before .before .before .before .before .before .before .before .before .before .before .before .before .before .before .carry .kept .1 .0) (low-is (c .before .before .before .before .before .before .before .before .before)) (subst (λ z. Carries (c .before .before .before .before .before .before .before .before .before .before .before .before .before .before .before .before .carry .last .0) (c .before .before .before .before .before .before .carry2 .last .0) (c .before .before .before .before .before .before .before .before .before .before .before .before .before .before .before .before .carry .last .1 .0) (c .before .before .before .before .before .before .carry2 .last .1 .0) (g .args .goal) (g .args .count) (c .before .before .before .before .before .before .before .before .before .before .lo .given .0 .1 .0) (c .before .before .before .before .before .before .before .before .before .before .before .before .before .before .before .before .before .before .before .high-link-of .result .0) z) (c .enum-told3 .given .1) (c .before .before .before .before .before .before .carry2 .ensures))
+      let low = c .before .before .before .before .before .before .before .before .before in
+      let node = node-of low in
+      let start = start-of node in
+      full-hi _ _ _ _ _ _ (start .pre .1) (two node) _ _ _ (node .before .before .before .before .var-of .ensures) (node .before .before .low-link-of .ensures) (node .high-link-of .ensures) (unknown node) _ _ _ _ (low .before .before .before .before .before .before .before .carry .kept .0) (low .before .before .before .before .before .before .before .carry .kept .1 .0) (low-is low) (subst (λ z. Carries (low .before .before .before .before .before .before .before .carry .last .0) (c .before .before .before .before .before .before .carry2 .last .0) (low .before .before .before .before .before .before .before .carry .last .1 .0) (c .before .before .before .before .before .before .carry2 .last .1 .0) (start .args .goal) (start .args .count) (low .before .lo .given .0 .1 .0) (node .high-link-of .result .0) z) (c .enum-told3 .given .1) (c .before .before .before .before .before .before .carry2 .ensures))
 
   push-node-requires : carry-lts.Need-push-node-requires (told t) (at t) carry.Post
   push-node-requires c κs =
-      let g = c .before .before .before .before .before .before .before .before .before .before .before .before .before .before .before .before .before .before .before .before .before .before .before .before .before .before .before .before .before .before .before .before .before .before .before in
-      pushing _ _ _ _ _ _ (g .pre .1) (two (c .before .before .before .before .before .before .before .before .before .before .before .before .before .before .before .before .before .before .before .before .before)) _ _ _ (c .before .before .before .before .before .before .before .before .before .before .before .before .before .before .before .before .before .before .before .before .before .before .before .before .before .var-of .ensures) (c .before .before .before .before .before .before .before .before .before .before .before .before .before .before .before .before .before .before .before .before .before .before .before .low-link-of .ensures) (c .before .before .before .before .before .before .before .before .before .before .before .before .before .before .before .before .before .before .before .before .before .high-link-of .ensures) (unknown (c .before .before .before .before .before .before .before .before .before .before .before .before .before .before .before .before .before .before .before .before .before)) _ _ _ _ (c .before .before .before .before .before .before .before .before .before .before .before .before .before .before .before .before .before .before .carry .kept .0) (c .before .before .before .before .before .before .before .before .before .before .before .before .before .before .before .before .before .before .carry .kept .1 .0) (low-is (c .before .before .before .before .before .before .before .before .before .before .before)) _ _ _ _ (c .before .before .before .before .before .before .before .before .carry2 .kept .0) (c .before .before .before .before .before .before .before .before .carry2 .kept .1 .0) (high-is (c .before))
+      let high = c .before in
+      let low = low-of high in
+      let node = node-of low in
+      let start = start-of node in
+      pushing _ _ _ _ _ _ (start .pre .1) (two node) _ _ _ (node .before .before .before .before .var-of .ensures) (node .before .before .low-link-of .ensures) (node .high-link-of .ensures) (unknown node) _ _ _ _ (low .before .before .before .before .before .before .before .carry .kept .0) (low .before .before .before .before .before .before .before .carry .kept .1 .0) (low-is low) _ _ _ _ (high .before .before .before .before .before .before .before .carry2 .kept .0) (high .before .before .before .before .before .before .before .carry2 .kept .1 .0) (high-is high)
 
   enum-known-noted : carry-lts.Need-enum-known-noted (told t) (at t) carry.Post
   enum-known-noted c = search needs
@@ -154,24 +195,43 @@ module _ (t : ℕ) where
 
   returns-5 : carry-lts.Need-returns-5 (told t) (at t) carry.Post
   returns-5 c =
-      let g = c .before .before .before .before .before .before .before .before .before .before .before .before .before .before .before .before .before .before .before .before .before .before .before .before .before .before .before .before .before .before .before .before .before .before .before .before .before .before .before .before in
-      full-node _ _ _ _ _ _ (g .pre .1) (two (c .before .before .before .before .before .before .before .before .before .before .before .before .before .before .before .before .before .before .before .before .before .before .before .before .before .before)) _ _ _ (c .before .before .before .before .before .before .before .before .before .before .before .before .before .before .before .before .before .before .before .before .before .before .before .before .before .before .before .before .before .before .var-of .ensures) (c .before .before .before .before .before .before .before .before .before .before .before .before .before .before .before .before .before .before .before .before .before .before .before .before .before .before .before .before .low-link-of .ensures) (c .before .before .before .before .before .before .before .before .before .before .before .before .before .before .before .before .before .before .before .before .before .before .before .before .before .before .high-link-of .ensures) (unknown (c .before .before .before .before .before .before .before .before .before .before .before .before .before .before .before .before .before .before .before .before .before .before .before .before .before .before)) _ _ _ _ (c .before .before .before .before .before .before .before .before .before .before .before .before .before .before .before .before .before .before .before .before .before .before .before .carry .kept .0) (c .before .before .before .before .before .before .before .before .before .before .before .before .before .before .before .before .before .before .before .before .before .before .before .carry .kept .1 .0) (low-is (c .before .before .before .before .before .before .before .before .before .before .before .before .before .before .before .before)) _ _ _ _ (c .before .before .before .before .before .before .before .before .before .before .before .before .before .carry2 .kept .0) (c .before .before .before .before .before .before .before .before .before .before .before .before .before .carry2 .kept .1 .0) (high-is (c .before .before .before .before .before .before)) (subst (λ z. Answers (pushed (c .before .before .before .before .before .before .before .before .before .before .before .before .before .carry2 .last .1 .0) (c .before .before .before .before .before .before .before .hi .given .0 .1 .0) (c .before .before .before .before .before .before .before .before .before .before .before .before .before .before .before .before .before .before .before .before .before .before .before .before .before .before .before .before .before .before .var-of .result .0) (c .before .before .before .before .before .before .before .before .before .before .before .before .before .before .before .before .before .lo .given .0 .0 .0) (c .before .before .before .before .before .before .before .hi .given .0 .0 .0)) (g .args .goal .room) (c .before .before .before .before .push-node .last .0) z) (c .enum-told4 .given .1) (c .before .before .before .before .push-node .ensures .0))
+      let high = c .before .before .before .before .before .before in
+      let low = low-of high in
+      let node = node-of low in
+      let start = start-of node in
+      full-node _ _ _ _ _ _ (start .pre .1) (two node) _ _ _ (node .before .before .before .before .var-of .ensures) (node .before .before .low-link-of .ensures) (node .high-link-of .ensures) (unknown node) _ _ _ _ (low .before .before .before .before .before .before .before .carry .kept .0) (low .before .before .before .before .before .before .before .carry .kept .1 .0) (low-is low) _ _ _ _ (high .before .before .before .before .before .before .before .carry2 .kept .0) (high .before .before .before .before .before .before .before .carry2 .kept .1 .0) (high-is high) (subst (λ z. Answers (pushed (high .before .before .before .before .before .before .before .carry2 .last .1 .0) (high .before .hi .given .0 .1 .0) (node .before .before .before .before .var-of .result .0) (low .before .lo .given .0 .0 .0) (high .before .hi .given .0 .0 .0)) (start .args .goal .room) (c .before .before .before .before .push-node .last .0) z) (c .enum-told4 .given .1) (c .before .before .before .before .push-node .ensures .0))
 
   keep-requires : carry-lts.Need-keep-requires (told t) (at t) carry.Post
   keep-requires c κs =
-      let g = c .before .before .before .before .before .before .before .before .before .before .before .before .before .before .before .before .before .before .before .before .before .before .before .before .before .before .before .before .before .before .before .before .before .before .before .before .before .before .before .before .before .before in
-      (slot-in _ _ _ _ _ _ (g .pre .1) (two (c .before .before .before .before .before .before .before .before .before .before .before .before .before .before .before .before .before .before .before .before .before .before .before .before .before .before .before .before)) _ _ _ (c .before .before .before .before .before .before .before .before .before .before .before .before .before .before .before .before .before .before .before .before .before .before .before .before .before .before .before .before .before .before .before .before .var-of .ensures) (c .before .before .before .before .before .before .before .before .before .before .before .before .before .before .before .before .before .before .before .before .before .before .before .before .before .before .before .before .before .before .low-link-of .ensures) (c .before .before .before .before .before .before .before .before .before .before .before .before .before .before .before .before .before .before .before .before .before .before .before .before .before .before .before .before .high-link-of .ensures) (unknown (c .before .before .before .before .before .before .before .before .before .before .before .before .before .before .before .before .before .before .before .before .before .before .before .before .before .before .before .before)) _ _ _ _ (c .before .before .before .before .before .before .before .before .before .before .before .before .before .before .before .before .before .before .before .before .before .before .before .before .before .carry .kept .0) (c .before .before .before .before .before .before .before .before .before .before .before .before .before .before .before .before .before .before .before .before .before .before .before .before .before .carry .kept .1 .0) (low-is (c .before .before .before .before .before .before .before .before .before .before .before .before .before .before .before .before .before .before)) _ _ _ _ (c .before .before .before .before .before .before .before .before .before .before .before .before .before .before .before .carry2 .kept .0) (c .before .before .before .before .before .before .before .before .before .before .before .before .before .before .before .carry2 .kept .1 .0) (high-is (c .before .before .before .before .before .before .before .before)), g .pre .1 .few, g .pre .1 .stamp, e-small _ _ _ _ _ _ (g .pre .1) (two (c .before .before .before .before .before .before .before .before .before .before .before .before .before .before .before .before .before .before .before .before .before .before .before .before .before .before .before .before)) _ _ _ (c .before .before .before .before .before .before .before .before .before .before .before .before .before .before .before .before .before .before .before .before .before .before .before .before .before .before .before .before .before .before .before .before .var-of .ensures) (c .before .before .before .before .before .before .before .before .before .before .before .before .before .before .before .before .before .before .before .before .before .before .before .before .before .before .before .before .before .before .low-link-of .ensures) (c .before .before .before .before .before .before .before .before .before .before .before .before .before .before .before .before .before .before .before .before .before .before .before .before .before .before .before .before .high-link-of .ensures) (unknown (c .before .before .before .before .before .before .before .before .before .before .before .before .before .before .before .before .before .before .before .before .before .before .before .before .before .before .before .before)) _ _ _ _ (c .before .before .before .before .before .before .before .before .before .before .before .before .before .before .before .before .before .before .before .before .before .before .before .before .before .carry .kept .0) (c .before .before .before .before .before .before .before .before .before .before .before .before .before .before .before .before .before .before .before .before .before .before .before .before .before .carry .kept .1 .0) (low-is (c .before .before .before .before .before .before .before .before .before .before .before .before .before .before .before .before .before .before)) _ _ _ _ (c .before .before .before .before .before .before .before .before .before .before .before .before .before .before .before .carry2 .kept .0) (c .before .before .before .before .before .before .before .before .before .before .before .before .before .before .before .carry2 .kept .1 .0) (high-is (c .before .before .before .before .before .before .before .before)) _ _ _ (node-is (c .before)))
+      let made = c .before in
+      let high = high-of made in
+      let low = low-of high in
+      let node = node-of low in
+      let start = start-of node in
+      (slot-in _ _ _ _ _ _ (start .pre .1) (two node) _ _ _ (node .before .before .before .before .var-of .ensures) (node .before .before .low-link-of .ensures) (node .high-link-of .ensures) (unknown node) _ _ _ _ (low .before .before .before .before .before .before .before .carry .kept .0) (low .before .before .before .before .before .before .before .carry .kept .1 .0) (low-is low) _ _ _ _ (high .before .before .before .before .before .before .before .carry2 .kept .0) (high .before .before .before .before .before .before .before .carry2 .kept .1 .0) (high-is high), start .pre .1 .few, start .pre .1 .stamp, e-small _ _ _ _ _ _ (start .pre .1) (two node) _ _ _ (node .before .before .before .before .var-of .ensures) (node .before .before .low-link-of .ensures) (node .high-link-of .ensures) (unknown node) _ _ _ _ (low .before .before .before .before .before .before .before .carry .kept .0) (low .before .before .before .before .before .before .before .carry .kept .1 .0) (low-is low) _ _ _ _ (high .before .before .before .before .before .before .before .carry2 .kept .0) (high .before .before .before .before .before .before .before .carry2 .kept .1 .0) (high-is high) _ _ _ (node-is made))
 
   same-length-8 : carry-lts.Need-same-length-8 (told t) (at t) carry.Post
-  same-length-8 c = c .before .before .keep .kept .0 ∙ c .before .before .before .before .before .before .before .before .before .before .before .before .before .before .before .before .before .before .carry2 .kept .0 ∙ c .before .before .before .before .before .before .before .before .before .before .before .before .before .before .before .before .before .before .before .before .before .before .before .before .before .before .before .before .carry .kept .0
+  same-length-8 c =
+      let made = c .before .before .before .before in
+      let high = high-of made in
+      let low = low-of high in
+      c .before .before .keep .kept .0 ∙ high .before .before .before .before .before .before .before .carry2 .kept .0 ∙ low .before .before .before .before .before .before .before .carry .kept .0
 
   same-length-9 : carry-lts.Need-same-length-9 (told t) (at t) carry.Post
-  same-length-9 c = c .before .before .before .before .before .before .before .before .before .push-node .kept .0 ∙ c .before .before .before .before .before .before .before .before .before .before .before .before .before .before .before .before .before .before .carry2 .kept .1 .0 ∙ c .before .before .before .before .before .before .before .before .before .before .before .before .before .before .before .before .before .before .before .before .before .before .before .before .before .before .before .before .carry .kept .1 .0
+  same-length-9 c =
+      let made = c .before .before .before .before in
+      let high = high-of made in
+      let low = low-of high in
+      made .before .before .before .before .before .push-node .kept .0 ∙ high .before .before .before .before .before .before .before .carry2 .kept .1 .0 ∙ low .before .before .before .before .before .before .before .carry .kept .1 .0
 
   returns-6 : carry-lts.Need-returns-6 (told t) (at t) carry.Post
   returns-6 c =
-      let g = c .before .before .before .before .before .before .before .before .before .before .before .before .before .before .before .before .before .before .before .before .before .before .before .before .before .before .before .before .before .before .before .before .before .before .before .before .before .before .before .before .before .before .before .before .before in
-      done _ _ _ _ _ _ (g .pre .1) (two (c .before .before .before .before .before .before .before .before .before .before .before .before .before .before .before .before .before .before .before .before .before .before .before .before .before .before .before .before .before .before .before)) _ _ _ (c .before .before .before .before .before .before .before .before .before .before .before .before .before .before .before .before .before .before .before .before .before .before .before .before .before .before .before .before .before .before .before .before .before .before .before .var-of .ensures) (c .before .before .before .before .before .before .before .before .before .before .before .before .before .before .before .before .before .before .before .before .before .before .before .before .before .before .before .before .before .before .before .before .before .low-link-of .ensures) (c .before .before .before .before .before .before .before .before .before .before .before .before .before .before .before .before .before .before .before .before .before .before .before .before .before .before .before .before .before .before .before .high-link-of .ensures) (unknown (c .before .before .before .before .before .before .before .before .before .before .before .before .before .before .before .before .before .before .before .before .before .before .before .before .before .before .before .before .before .before .before)) _ _ _ _ (c .before .before .before .before .before .before .before .before .before .before .before .before .before .before .before .before .before .before .before .before .before .before .before .before .before .before .before .before .carry .kept .0) (c .before .before .before .before .before .before .before .before .before .before .before .before .before .before .before .before .before .before .before .before .before .before .before .before .before .before .before .before .carry .kept .1 .0) (low-is (c .before .before .before .before .before .before .before .before .before .before .before .before .before .before .before .before .before .before .before .before .before)) _ _ _ _ (c .before .before .before .before .before .before .before .before .before .before .before .before .before .before .before .before .before .before .carry2 .kept .0) (c .before .before .before .before .before .before .before .before .before .before .before .before .before .before .before .before .before .before .carry2 .kept .1 .0) (high-is (c .before .before .before .before .before .before .before .before .before .before .before)) (c .before .before .before .before .before .before .before .before .before .push-node .last .0) _ _ (node-is (c .before .before .before .before)) (c .before .before .keep .last .0) (c .before .before .keep .ensures)
+      let made = c .before .before .before .before in
+      let high = high-of made in
+      let low = low-of high in
+      let node = node-of low in
+      let start = start-of node in
+      done _ _ _ _ _ _ (start .pre .1) (two node) _ _ _ (node .before .before .before .before .var-of .ensures) (node .before .before .low-link-of .ensures) (node .high-link-of .ensures) (unknown node) _ _ _ _ (low .before .before .before .before .before .before .before .carry .kept .0) (low .before .before .before .before .before .before .before .carry .kept .1 .0) (low-is low) _ _ _ _ (high .before .before .before .before .before .before .before .carry2 .kept .0) (high .before .before .before .before .before .before .before .carry2 .kept .1 .0) (high-is high) (made .before .before .before .before .before .push-node .last .0) _ _ (node-is made) (c .before .before .keep .last .0) (c .before .before .keep .ensures)
 
 pub +carry-spec : {M : Type 1} → statement M
 +carry-spec = close μ (λ t. carry-lts.spec (told t) (at t) carry.Post (returns t) (recall-requires t) (enum-known-known t) (same-length t) (returns-2 t) (enum-told t) (var-of-requires t) (low-link-of-requires t) (high-link-of-requires t) (carry-requires t) (enum-known-lo t) (enum-told-2 t) (same-length-2 t) (same-length-3 t) (returns-3 t) (carry-requires-2 t) (enum-known-hi t) (enum-told-3 t) (same-length-4 t) (same-length-5 t) (returns-4 t) (push-node-requires t) (enum-known-noted t) (enum-told-4 t) (same-length-6 t) (same-length-7 t) (returns-5 t) (keep-requires t) (same-length-8 t) (same-length-9 t) (returns-6 t))
