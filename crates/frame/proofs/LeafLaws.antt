@@ -1,4 +1,4 @@
--- The false table, and a copy.
+-- The false table, copies, and words compared.
 use mathlib.Core.Path.{_≡_, refl, sym, ap, _∙_}
 use mathlib.Core.Logic.{_≢_, _⊎_, inl, inr}
 use mathlib.Core.Bool.{Bool, true, false}
@@ -12,7 +12,8 @@ use Rattle.theory.specs.Tree.{Tree, Deep, konst}
 use Rattle.theory.specs.Table.{node, constants, cut, canon}
 use Rattle.theory.specs.Words.{stride, wordsOf}
 use Rattle.theory.proofs.Again.{walk-konst}
-use Rattle.frame.specs.Held.{Tab, Copies}
+use Rattle.frame.specs.Held.{part, Kept, Tab, Copies}
+use Rattle.frame.proofs.Views.{part-long}
 
 -- ---- the false table
 konst-deep : (k : ℕ) (b : Bool) → Deep k (konst k b)
@@ -78,24 +79,55 @@ copy-step w₀ w a d n i clear h l c = record {
     source (inl s) = inr (omega arith)
     source (inr s) = inl (omega arith)
 
-pub copy-end : (m : ℕ) (w₀ w : List ℕ) (a d k i : ℕ) → a + stride * k ≤ length w₀ → d + stride * k ≤ length w₀ → stride * k ≤ i → i ≤ stride * k → Copied w₀ w a d i → (take d w ≡ take d w₀) × Copies m w₀ w a k d
-copy-end m w₀ w a d k i ha hd h h′ c = (
-  ext-getD 0 (take d w) (take d w₀) (length-take-le d w (omega (arith, c .long)) ∙ sym (length-take-le d w₀ (omega arith)))
-      (λ j l. low j (omega (arith, length-take-le d w (omega (arith, c .long))))),
-  (λ f t. record {
-    deep = t .deep;
-    lies = omega (arith, c .long);
-    count = t .count;
-    words = ext-getD 0 (take (stride * k) (drop d w)) (take (stride * k) (drop a w₀)) (len d w (omega (arith, c .long)) ∙ sym (len a w₀ ha))
-        (λ j l. mid j (omega (arith, len d w (omega (arith, c .long))))) ∙ t .words;
-  }),
+-- words that agree one by one
+views-alike : (n : ℕ) (v w : List ℕ) (a b : ℕ) → a + n ≤ length v → b + n ≤ length w → ((j : ℕ) → j < n → getD v (a + j) 0 ≡ getD w (b + j) 0) → part a (a + n) v ≡ part b (b + n) w
+views-alike n v w a b ha hb h =
+    ext-getD 0 (part a (a + n) v) (part b (b + n) w) (part-long a (a + n) v ha ∙ (omega arith) ∙ sym (part-long b (b + n) w hb))
+    (λ j l. let k : j < n = omega (arith, part-long a (a + n) v ha) in read a v j k ∙ h j k ∙ sym (read b w j k))
+  where
+    read : (o : ℕ) (u : List ℕ) (j : ℕ) → j < n → getD (part o (o + n) u) j 0 ≡ getD u (o + j) 0
+    read o u j k = getD-take (o + n - o) (drop o u) j 0 (omega arith) ∙ getD-drop o u j 0
+
+pub copy-end : (w₀ w : List ℕ) (a d n i : ℕ) → a + n ≤ length w₀ → d + n ≤ length w₀ → n ≤ i → i ≤ n → Copied w₀ w a d i → Kept w₀ w d (d + n) × (part d (d + n) w ≡ part a (a + n) w₀)
+copy-end w₀ w a d n i ha hd h h′ c = (
+  record {
+    front =
+        ext-getD 0 (take d w) (take d w₀) (length-take-le d w (omega (arith, c .long)) ∙ sym (length-take-le d w₀ (omega arith)))
+        (λ j l. low j (omega (arith, length-take-le d w (omega (arith, c .long)))));
+    back =
+        ext-getD 0 (drop (d + n) w) (drop (d + n) w₀) (length-drop (d + n) w ∙ ap (λ z. z - (d + n)) (c .long) ∙ sym (length-drop (d + n) w₀))
+        (λ j l. getD-drop (d + n) w j 0 ∙ c .other (d + n + j) (inr (omega arith)) ∙ sym (getD-drop (d + n) w₀ j 0));
+  },
+  views-alike n w w₀ d a (omega (arith, c .long)) ha (λ j l. c .done j (omega arith)),
 )
   where
     low : (j : ℕ) → j < d → getD (take d w) j 0 ≡ getD (take d w₀) j 0
     low j l = getD-take d w j 0 l ∙ c .other j (inl l) ∙ sym (getD-take d w₀ j 0 l)
 
-    len : (o : ℕ) (v : List ℕ) → o + stride * k ≤ length v → length (take (stride * k) (drop o v)) ≡ stride * k
-    len o v e = length-take-le (stride * k) (drop o v) (omega (arith, length-drop o v))
+-- a table whose words are copied
+pub copied-table : (m : ℕ) (w w′ : List ℕ) (a d k : ℕ) → d + stride * k ≤ length w → length w′ ≡ length w → part d (d + stride * k) w′ ≡ part a (a + stride * k) w → Copies m w w′ a k d
+copied-table m w w′ a d k hd n is f t = record {
+  deep = t .deep;
+  lies = omega arith;
+  count = t .count;
+  words = whole d w′ ∙ is ∙ sym (whole a w) ∙ t .words;
+}
+  where
+    whole : (o : ℕ) (v : List ℕ) → take (stride * k) (drop o v) ≡ part o (o + stride * k) v
+    whole o v = let e : stride * k ≡ o + stride * k - o = omega arith in ap (λ z. take z (drop o v)) e
 
-    mid : (j : ℕ) → j < stride * k → getD (take (stride * k) (drop d w)) j 0 ≡ getD (take (stride * k) (drop a w₀)) j 0
-    mid j l = getD-take (stride * k) (drop d w) j 0 l ∙ getD-drop d w j 0 ∙ c .done j (omega arith) ∙ sym (getD-take (stride * k) (drop a w₀) j 0 l ∙ getD-drop a w₀ j 0)
+-- ---- words compared
+pub alike-all : (w : List ℕ) (a b n i : ℕ) → a + n ≤ length w → b + n ≤ length w → n ≤ i → ((j : ℕ) → j < i → getD w (a + j) 0 ≡ getD w (b + j) 0) → part a (a + n) w ≡ part b (b + n) w
+alike-all w a b n i ha hb h e = views-alike n w w a b ha hb (λ j l. e j (omega arith))
+
+pub alike-more : (w : List ℕ) (a b i : ℕ) → ((j : ℕ) → j < i → getD w (a + j) 0 ≡ getD w (b + j) 0) → getD w (a + i) 0 ≡ getD w (b + i) 0 → (j : ℕ) → j < i + 1 → getD w (a + j) 0 ≡ getD w (b + j) 0
+alike-more w a b i e d j l = elim (ℕ-discrete j i) [
+  | yes is ↦ rw is d
+  | no ne ↦ e j (omega arith)
+]
+
+pub unlike-at : (w : List ℕ) (a b n i : ℕ) → i < n → (getD w (a + i) 0 ≡ getD w (b + i) 0 → ⊥) → part a (a + n) w ≡ part b (b + n) w → ⊥
+unlike-at w a b n i l ne e = ne (sym (read a) ∙ ap (λ v. getD v i 0) e ∙ read b)
+  where
+    read : (o : ℕ) → getD (part o (o + n) w) i 0 ≡ getD w (o + i) 0
+    read o = getD-take (o + n - o) (drop o w) i 0 (omega arith) ∙ getD-drop o w i 0

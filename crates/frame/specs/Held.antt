@@ -1,6 +1,6 @@
 -- Tables in one slice, by their offsets: what is held where, and what an operation leaves.
 use mathlib.Core.Path.{_≡_}
-use mathlib.Core.Bool.{Bool}
+use mathlib.Core.Bool.{Bool, true, false}
 use mathlib.Core.List.{List}
 use Prim.Native.Nat.{ℕ, _+_, _*_, _-_, _≤_, _<_}
 use lib.ListN.{length, take, drop}
@@ -20,6 +20,11 @@ part s e w = take (e - s) (drop s w)
 pub record Kept (w w′ : List ℕ) (s e : ℕ) : Type 0 where
   pub front : take s w′ ≡ take s w
   pub back : drop e w′ ≡ drop e w
+
+-- the n words from a on and those from b on are the same, or not
+abbrev pub Alike : List ℕ → ℕ → ℕ → ℕ → Bool → Type 0
+Alike w a b n true = part a (a + n) w ≡ part b (b + n) w
+Alike w a b n false = part a (a + n) w ≡ part b (b + n) w → ⊥
 
 -- from word o on stands the canonical table of f, of k nodes
 pub record Tab (n : ℕ) (w : List ℕ) (o k : ℕ) (f : Tree) : Type 0 where

@@ -10,7 +10,7 @@ ghost use Rattle.theory.specs.Table.{mk, constants};
 ghost use Rattle.theory.specs.Words.{stride, nodes};
 ghost use Rattle.refusal.specs.Buffers.{padded};
 ghost use Rattle.pool.specs.Pool.{Noding, Answers};
-ghost use Rattle.frame.specs.Held.{part, Kept, Tab, Copies};
+ghost use Rattle.frame.specs.Held.{part, Kept, Alike, Tab, Copies};
 use pool::Noted;
 use table::BddPointer;
 use table::NODE_WORDS;
@@ -78,16 +78,39 @@ pub fn false_in(w: &mut [u32], q: Size, d: usize)
     w[d + 2] = 0;
 }
 
-// A table's words once more, elsewhere.
-pub fn copy_in(w: &mut [u32], q: Size, a: usize, k: u32, d: usize)
-    requires { ⌜ (a + stride * k ≤ length (now w)) × (d + stride * k ≤ length (now w)) × ((d + stride * k ≤ a) ⊎ (a + stride * k ≤ d)) ⌝ }
-    ensures { λ _. ⌜ take d (now (w .exit)) ≡ take d (now (w .entry)) ⌝ }
-    ensures { λ _. ⌜ Copies (q .n) (now (w .entry)) (now (w .exit)) a k d ⌝ }
+// The n words from a on once more, from d on.
+pub fn copy_words(w: &mut [u32], a: usize, n: usize, d: usize)
+    requires { ⌜ (a + n ≤ length (now w)) × (d + n ≤ length (now w)) × ((d + n ≤ a) ⊎ (a + n ≤ d)) ⌝ }
+    ensures { λ _. ⌜ Kept (now (w .entry)) (now (w .exit)) d (d + n) ⌝ }
+    ensures { λ _. ⌜ part d (d + n) (now (w .exit)) ≡ part a (a + n) (now (w .entry)) ⌝ }
 {
-    let n = NODE_WORDS * (k as usize);
     let mut i: usize = 0;
     while i < n {
         w[d + i] = w[a + i];
         i += 1;
     }
+}
+
+// The n words from a on are those from b on.
+pub fn same_words(w: &[u32], a: usize, b: usize, n: usize) -> bool
+    requires { ⌜ (a + n ≤ length (now w)) × (b + n ≤ length (now w)) ⌝ }
+    ensures { λ r. ⌜ Alike (now (w .entry)) a b n r ⌝ }
+{
+    let mut i: usize = 0;
+    while i < n {
+        if w[a + i] != w[b + i] {
+            return false;
+        }
+        i += 1;
+    }
+    true
+}
+
+// A table once more, elsewhere.
+pub fn copy_in(w: &mut [u32], q: Size, a: usize, k: u32, d: usize)
+    requires { ⌜ (a + stride * k ≤ length (now w)) × (d + stride * k ≤ length (now w)) × ((d + stride * k ≤ a) ⊎ (a + stride * k ≤ d)) ⌝ }
+    ensures { λ _. ⌜ take d (now (w .exit)) ≡ take d (now (w .entry)) ⌝ }
+    ensures { λ _. ⌜ Copies (q .n) (now (w .entry)) (now (w .exit)) a k d ⌝ }
+{
+    copy_words(w, a, NODE_WORDS * (k as usize), d)
 }
