@@ -14,6 +14,7 @@ use Rattle.theory.proofs.Clauses.{formed, not-malformed}
 use Rattle.theory.specs.Words.{stride}
 use Rattle.cube.specs.Cube.{clauseAt}
 use Rattle.refusal.specs.Number.{order, SHEET}
+use Rattle.refusal.specs.Limits.{maxMarks}
 use Rattle.refusal.specs.Verdict.{Reply, Verdict, refused, answered, firstOf, tried, judged, gives}
 use Rattle.refusal.proofs.Firsts.{first-before, first-none}
 use Rattle.refusal.proofs.Single.{OneToOne, Single, single, no-values, refusal-single}
@@ -168,3 +169,18 @@ module _ (bytes clauses nodes : List ℕ) where
 -- each call has one possible answer; its buffers have equations of their own
 pub sheet-single : (bytes clauses nodes : List ℕ) → Single sheetReply (readsSheet bytes clauses nodes)
 sheet-single bytes clauses nodes = single sheetReply sheet-one (readsSheet bytes clauses nodes)
+
+-- a section that is read has at most 60 marks
+pub marks-few : (bytes clauses nodes : List ℕ) (k n : ℕ) (vs : List ℕ) (outs : List (List ℕ)) → readsSheet bytes clauses nodes ≡ answered (k ∷ n ∷ vs) outs → n ≤ maxMarks
+marks-few bytes clauses nodes k n vs outs e =
+    let s = only-sheets bytes clauses nodes (k ∷ n ∷ vs) outs e in
+    elim (s .1) [
+      | inl a ↦ within-marks 1 _ _ _ (sym (clauses-read bytes clauses nodes (s .0) true a) ∙ e) (a .marks)
+      | inr b ↦ elim b [
+        | inl a ↦ within-marks 2 _ _ _ (sym (clauses-read bytes clauses nodes (s .0) false a) ∙ e) (a .marks)
+        | inr a ↦ within-marks 3 _ _ _ (sym (table-read bytes clauses nodes (s .0) a) ∙ e) (a .marks)
+      ]
+    ]
+  where
+    within-marks : (j m : ℕ) (us : List ℕ) (ws : List (List ℕ)) → answered (j ∷ m ∷ us) ws ≡ answered (k ∷ n ∷ vs) outs → m ≤ maxMarks → n ≤ maxMarks
+    within-marks j m us ws q h = let z : m ≡ n = cc in omega arith

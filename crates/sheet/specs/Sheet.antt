@@ -132,7 +132,7 @@ givesTable h bytes = answered (tableKind ∷ h .n ∷ h .«node_count» ∷ []) 
 unfoldable pub givesSection : Header → List ℕ → List ℕ → Verdict
 givesSection h bytes clauses = cond (holdsClauses (h .kind)) (givesClauses h bytes clauses) (givesTable h bytes)
 
--- the section of a sheet in 01's layout: its kind, n and count, and its words
+-- what is read of a sheet: its kind, n and count, and the section's words
 unfoldable pub readsSheet : List ℕ → List ℕ → List ℕ → Verdict
 readsSheet bytes clauses nodes = judged (sheetFindings bytes nodes) (givesSection (decodeHeader bytes) bytes clauses)
 

@@ -22,7 +22,7 @@ unfoldable pub digits : ℕ → ℕ → List ℕ
 digits zero w = []
 digits (suc k) w = cond (ltb w 10) (digit w ∷ []) (digits k (w / 10) ++ (digit (w % 10) ∷ []))
 
--- a number in decimal, with no leading zero; it has no more digits than it and one
+-- a number in decimal, with no leading zero: w + 1 digits are always enough
 unfoldable pub decimal : ℕ → List ℕ
 decimal w = digits (suc w) w
 

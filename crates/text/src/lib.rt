@@ -1,6 +1,6 @@
 // The program's lines, written one behind the other into a lent buffer. Inner.
 ghost use mathlib.Core.Path.{_≡_};
-ghost use mathlib.Core.List.{[], _∷_, _++_};
+ghost use mathlib.Core.List.{[], _∷_};
 ghost use Prim.Native.Nat.{_+_, _*_, _%_, _<_, _≤_};
 ghost use lib.ListN.{length, take};
 ghost use Rattle.theory.specs.Clause.{clause, cell};

@@ -1,4 +1,4 @@
-use mathlib.Core.Path.{_≡_, refl, sym, ap, _∙_}
+use mathlib.Core.Path.{_≡_, refl, ap, _∙_}
 use mathlib.Core.List.{[], _∷_}
 use Prim.Native.Nat.{_-_, _≤_}
 use native.Mathlib.Omega.{arith}
@@ -6,7 +6,7 @@ use lib.ListN.{length}
 use borrow.Author.Needs.{needs}
 use Rattle.theory.specs.Clause.{clause, cell}
 use Rattle.text.specs.Text.{cellChar, cellChars}
-use Rattle.text.specs.Writing.{Fits, Appends}
+use Rattle.text.specs.Writing.{Appends}
 use Rattle.text.proofs.WritingLaws.{appends-none, appends-is, byte-fits, loop-fits, loop-appends}
 use Rattle.text.proofs.TextLaws.{cells-step}
 use Rattle.text.proofs.put_cells.Statement.{statement}
