@@ -144,13 +144,13 @@ def svg(table, names):
 
 
 def link_path(chain, high, side, layout, point):
-    """From a side of the node's foot down to the same side of the top of the node it leads to."""
+    """From a side of the node's foot down to the top of the node it leads to, on the side where it comes from."""
     row = layout.row[chain[0]]
     points = [point(item, row + i) for i, item in enumerate(chain)]
     x, y = points[0]
     points[0] = (x + side * 8, y + RADIUS - 2)
     x, y = points[-1]
-    points[-1] = (x + side * 5, y - RADIUS + 1)
+    points[-1] = (x + (5 if points[-2][0] > x else -5), y - RADIUS + 1)
     curve = f"M{points[0][0]:.1f},{points[0][1]:.1f}"
     for (x0, y0), (x1, y1) in zip(points, points[1:]):
         half = (y0 + y1) / 2

@@ -32,7 +32,7 @@ def read_list(name, lines):
         if heading is None:
             if body:
                 heading = read_heading(f"{name}:{at}", body)
-        elif body or (heading == ("dnf", 0) or heading == ("cnf", 0)) and not line.startswith("#"):
+        elif body or heading in (("dnf", 0), ("cnf", 0)) and not line.lstrip().startswith("#"):
             entries.append((at, body))
     if heading is None:
         raise Wrong(f"{name}: nothing in it; a text begins with 'dnf N', 'cnf N' or 'table N'")
