@@ -7,6 +7,9 @@
 
 enum { MARKS = 6, ROOM = 64, MOST = 64 };
 
+/* A buffer as every call takes it: where it starts, and how many words it has. */
+#define LENT(buffer) buffer, sizeof buffer / sizeof buffer[0]
+
 static uint32_t table[COLLARTUG_OUT_WORDS(ROOM)];
 static uint32_t work[COLLARTUG_WORK_WORDS(ROOM)];
 static uint64_t list[2 * MOST];
@@ -35,7 +38,7 @@ static int refused(const char *what) {
 }
 
 static int check(const char *name, size_t count, size_t clauses, const uint64_t *words) {
-    collartug_check_cover(MARKS, count, table, sizeof table / 4, clauses, words, 2 * clauses, ROOM, work, sizeof work / 4, reply, 64);
+    collartug_check_cover(MARKS, count, LENT(table), clauses, words, 2 * clauses, ROOM, LENT(work), LENT(reply));
     if (refused(name))
         return 1;
     if (reply[2] == 0) {
@@ -54,13 +57,13 @@ int main(void) {
     clause("10--00", inverted);
     clause("1100-0", inverted + 2);
 
-    collartug_mk_dnf(MARKS, 2, pocket, 4, ROOM, table, sizeof table / 4, work, sizeof work / 4, reply, 64);
+    collartug_mk_dnf(MARKS, 2, LENT(pocket), ROOM, LENT(table), LENT(work), LENT(reply));
     if (refused("mk_dnf"))
         return 1;
     size_t count = reply[2];
     printf("%zu nodes\n", count);
 
-    collartug_to_dnf(MARKS, count, table, sizeof table / 4, list, sizeof list / 8, work, sizeof work / 4, reply, 64);
+    collartug_to_dnf(MARKS, count, LENT(table), LENT(list), LENT(work), LENT(reply));
     if (refused("to_dnf"))
         return 1;
     size_t paths = reply[2];
