@@ -61,6 +61,11 @@ uint64_t collartug_mk_dnf_valuation(uint16_t n, size_t count, const uint64_t *ca
 uint64_t collartug_mk_cnf_valuation(uint16_t n, size_t count, const uint64_t *cases, size_t cases_len, size_t room, uint32_t *out,
     size_t out_len, uint32_t *work, size_t work_len, uint64_t *reply, size_t reply_len);
 
+/* Reads a sheet. Answers its kind (1 dnf, 2 cnf, 3 table), the marks and the count; the clauses or the nodes go to their buffer, which has
+ * two words a clause or three words a node, and the other is filled with zeros. */
+uint64_t collartug_read_sheet(const uint8_t *bytes, size_t bytes_len, uint64_t *clauses, size_t clauses_len, uint32_t *nodes,
+    size_t nodes_len, uint64_t *reply, size_t reply_len);
+
 /* Asking a table. */
 
 /* Looks a table over. Answers its root; TABLE where it is not ordered. */

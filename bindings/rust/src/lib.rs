@@ -3,14 +3,17 @@
 mod clause;
 mod raw;
 mod refusal;
+mod sheet;
 mod table;
 
 pub use clause::Clause;
 pub use refusal::Refusal;
+pub use sheet::Sheet;
 pub use table::{Cover, Table};
 
-/// The most marks, and the most nodes that a room may have.
+/// The most marks, the most clauses of an input, and the most nodes of a table or room.
 pub const MOST_MARKS: u16 = 60;
+pub const MOST_CLAUSES: usize = 1024;
 pub const MOST_NODES: usize = 4096;
 
 /// The least words of a reply; the answer follows number and place.

@@ -235,4 +235,14 @@ extern "C" {
     pub fn collartug_eq(fixed: u64, values: u64, other_fixed: u64, other_values: u64, reply: *mut u64, reply_len: usize) -> u64;
     pub fn collartug_from_values(entries: *const u32, entries_len: usize, reply: *mut u64, reply_len: usize) -> u64;
     pub fn collartug_to_values(fixed: u64, values: u64, reply: *mut u64, reply_len: usize) -> u64;
+    pub fn collartug_read_sheet(
+        bytes: *const u8,
+        bytes_len: usize,
+        clauses: *mut u64,
+        clauses_len: usize,
+        nodes: *mut u32,
+        nodes_len: usize,
+        reply: *mut u64,
+        reply_len: usize,
+    ) -> u64;
 }

@@ -75,6 +75,12 @@ impl Table {
         Ok(Table { n, words })
     }
 
+    /// A table that the library has read and looked over.
+    pub(crate) fn read(n: u16, count: usize, mut words: Vec<u32>) -> Table {
+        words.truncate(3 * count);
+        Table { n, words }
+    }
+
     pub fn marks(&self) -> u16 {
         self.n
     }

@@ -1,5 +1,5 @@
 //! Every call once with a known answer, and the refusals that a caller meets.
-use collartug::{Clause, Cover, Refusal, Table};
+use collartug::{Clause, Cover, Refusal, Sheet, Table};
 
 fn list(texts: &[&str]) -> Vec<Clause> {
     texts.iter().map(|text| Clause::parse(text).unwrap()).collect()
@@ -101,4 +101,31 @@ fn clauses_by_themselves() {
 #[test]
 fn refusals_have_words() {
     assert_eq!(Refusal { number: 7, place: 3 }.to_string(), "refused 7 3 (NODES)");
+}
+
+/// A sheet over two marks.
+fn sheet(kind: u32, clauses: &[u64], nodes: &[u32]) -> Vec<u8> {
+    let offset = |len: usize| if len == 0 { 0 } else { 32 };
+    let (clause_count, node_count) = (clauses.len() / 2, nodes.len() / 3);
+    let total = 32 + 8 * clauses.len() + 4 * nodes.len();
+    let header = [1, 2, clause_count, offset(clause_count), node_count, offset(node_count), total].map(|word| word as u32);
+    let words = header.iter().chain([&kind]).flat_map(|word| word.to_le_bytes());
+    words.chain(clauses.iter().flat_map(|word| word.to_le_bytes())).chain(nodes.iter().flat_map(|word| word.to_le_bytes())).collect()
+}
+
+#[test]
+fn sheets_are_read() {
+    let both = table(2, &["11"]);
+    let list = list(&["11"]);
+    assert_eq!(Sheet::read(&sheet(1, &[3, 3], &[])), Ok(Sheet::Dnf(2, list.clone())));
+    assert_eq!(Sheet::read(&sheet(2, &[3, 3], &[])), Ok(Sheet::Cnf(2, list)));
+    let nodes: Vec<u32> = both.nodes().flatten().collect();
+    assert_eq!(Sheet::read(&sheet(3, &[], &nodes)), Ok(Sheet::Table(both.clone())));
+    assert_eq!(Sheet::read(&sheet(1, &[3, 3], &[])).unwrap().table(9), Ok(both));
+    assert_eq!(Sheet::read(&sheet(2, &[3, 3], &[])).unwrap().table(9), Ok(table(2, &["1-", "-1"])));
+    assert_eq!(Sheet::read(&[]), refused(Refusal::SHEET, 0));
+    assert_eq!(Sheet::read(&sheet(4, &[3, 3], &[])), refused(Refusal::SHEET, 0));
+    assert_eq!(Sheet::read(&sheet(1, &[3, 3, 4, 0], &[])), refused(Refusal::CLAUSE, 1));
+    assert_eq!(Sheet::read(&sheet(3, &[], &nodes[..9])).unwrap().table(9).map(|table| table.count()), Ok(3));
+    assert_eq!(Sheet::read(&sheet(3, &[], &nodes[3..9])), refused(Refusal::TABLE, 0));
 }
