@@ -181,9 +181,9 @@ fn the_short_list_of_the_readme_is_the_oracles() {
     assert!(read_to_string(root().join("README.md")).unwrap().contains(&wanted), "{wanted}");
 }
 
-/// The names that follow a word, up to the bracket.
+/// The names that follow a word, up to a bracket.
 fn names<'a>(page: &'a str, before: &str) -> Vec<&'a str> {
-    let mut found: Vec<&str> = page.split(before).skip(1).map(|rest| rest.split('(').next().unwrap()).collect();
+    let mut found: Vec<&str> = page.split(before).skip(1).map(|rest| rest.split(['(', '<']).next().unwrap()).collect();
     found.sort();
     found
 }
