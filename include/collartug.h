@@ -97,6 +97,17 @@ uint64_t collartug_to_dnf(uint16_t n, size_t count, const uint32_t *nodes, size_
 uint64_t collartug_to_cnf(uint16_t n, size_t count, const uint32_t *nodes, size_t nodes_len, uint64_t *out, size_t out_len, uint32_t *work,
     size_t work_len, uint64_t *reply, size_t reply_len);
 
+/* Whether a path walk may start. Answers the root; REDUCED where the table is ordered but has a node that it does not need. */
+uint64_t collartug_walk_check(uint16_t n, size_t count, const uint32_t *nodes, size_t nodes_len, uint64_t *reply, size_t reply_len);
+
+/* Step k of a path walk, from 0: clause k of to_dnf. Answers 1 and the clause; 0 after the last, and where no walk may start. */
+uint64_t collartug_kth_step(uint16_t n, size_t count, const uint32_t *nodes, size_t nodes_len, uint32_t k, uint64_t *reply,
+    size_t reply_len);
+
+/* Which of two lists to post: the one with fewer clauses, the DNF on a tie. Answers how many words it has, its first and its last word. */
+uint64_t collartug_choose_posting(const uint64_t *dnf, size_t dnf_len, const uint64_t *cnf, size_t cnf_len, uint64_t *reply,
+    size_t reply_len);
+
 /* Tables from tables. Each writes the result to out and answers its node count. Both tables speak of the same n marks. */
 
 /* Not the table. */
