@@ -6,3 +6,5 @@ pub mod Operators
 pub mod Builders
 pub mod Lists
 pub mod Cover
+pub mod Walk
+pub mod Sheets

@@ -22,6 +22,7 @@ pub mod proved_extractors;
 pub mod proved_operators;
 pub mod proved_sheet;
 pub mod proved_valuations;
+pub mod proved_walk;
 pub mod random;
 pub mod reading;
 pub mod reading_builders;
