@@ -125,23 +125,9 @@ fn expected(name: &str) -> String {
     page
 }
 
-/// While ./run is the demonstration, something that knows the example sheets and what the oracle says of them stands in for the program.
-fn stand_in(folder: &Folder) {
-    let mut script = String::from("#!/bin/sh\ncd \"$(dirname \"$0\")\"; cat > given\n");
-    for name in ["cell", "pocket"] {
-        assert!(folder.run(&format!("tools/sheet make examples/{name}.txt > known-{name}")).status.success());
-        write(folder.0.join(format!("says-{name}")), expected(&format!("{name}.txt"))).unwrap();
-        script.push_str(&format!("cmp -s given known-{name} && exec cat says-{name}\n"));
-    }
-    write(folder.0.join("run"), script + "echo refused 9 0\n").unwrap();
-}
-
 #[test]
 fn every_command_shows_what_its_page_shows() {
     let folder = Folder::of_repository();
-    if read_to_string(root().join("run")).unwrap().contains("rt check demo") {
-        stand_in(&folder);
-    }
     let mut ran = 0;
     for page in PAGES {
         for shown in commands(&read_to_string(root().join(page)).unwrap()) {
