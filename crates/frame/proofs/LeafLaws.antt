@@ -1,14 +1,14 @@
 -- The false table, copies, and words compared.
 use mathlib.Core.Path.{_≡_, refl, sym, ap, _∙_}
 use mathlib.Core.Logic.{_≢_, _⊎_, inl, inr}
-use mathlib.Core.Bool.{Bool, true, false}
+use mathlib.Core.Bool.{Bool, false}
 use mathlib.Core.List.{List, [], _∷_}
 use Prim.Native.Nat.{ℕ, zero, suc, _+_, _*_, _-_, _≤_, _<_}
 use native.Mathlib.Omega.{arith}
 use native.Mathlib.Decide.{ℕ-discrete}
 use lib.ListN.{length, take, drop, set, getD, length-set, length-drop}
 use lib.Seq.{take-set-le, getD-take, getD-drop, getD-set-same, getD-set-other, ext-getD, length-take-le}
-use Rattle.theory.specs.Tree.{Tree, Deep, konst}
+use Rattle.theory.specs.Tree.{Deep, konst}
 use Rattle.theory.specs.Table.{node, constants, cut, canon}
 use Rattle.theory.specs.Words.{stride, wordsOf}
 use Rattle.theory.proofs.Again.{walk-konst}

@@ -27,7 +27,7 @@ use Rattle.carry.proofs.WholeLaws.{begins, left-over, left-false, left-table}
 use Rattle.frame.specs.declared.Size.{Size}
 use Rattle.frame.specs.declared.Made.{Made}
 use Rattle.frame.specs.declared.Made.the-variants.{Count, Over}
-use Rattle.frame.specs.Held.{part, Kept, Lies, Operand, Left, Turns}
+use Rattle.frame.specs.Held.{Kept, Lies, Operand, Left, Turns}
 use Rattle.frame.proofs.Views.{part-front, part-back, part-long, part-as-long, front-less, tab-means, tab-sound, leaves-over, leaves-count, left-gives}
 use Rattle.frame_carry.specs.declared.Place.{Place}
 use Rattle.frame_carry.specs.Framed.{tablePart, outPart, memoPart, Layout, ReadingIn, FinishingIn, CarryingIn, PlacingIn}

@@ -1,6 +1,6 @@
 -- The descent that makes no node over parts of one slice: its laws are those of the parts, since only the memory is written.
 use mathlib.Core.Path.{_≡_, refl, sym, ap, ap₂, subst, _∙_}
-use mathlib.Core.Bool.{Bool, true, false, cond, not, _&&_}
+use mathlib.Core.Bool.{Bool, true, false, cond}
 use mathlib.Core.List.{List}
 use Prim.Native.Nat.{ℕ, _+_, _-_, _*_, _<_, _≤_}
 use native.Mathlib.Omega.{arith}
@@ -16,13 +16,12 @@ use Rattle.join.specs.declared.Cut.{Cut}
 use Rattle.join.specs.declared.Step.{Step}
 use Rattle.join.specs.declared.Step.the-variants.{Known, Fork}
 use Rattle.join.specs.Memo.{ways, Stores}
-use Rattle.join.specs.Task.{opOf}
 use Rattle.join.specs.Joining.{taskOf, Splits, Parted, knownIn, joinedBy}
 use Rattle.join.proofs.TruthLaws.{and-not-table, cofactor-none}
 use Rattle.implies.specs.Implying.{Implying, Implies, SaysNo}
 use Rattle.implies.proofs.ImpliesLaws.{splitting, known-implies, step-parted, deeper, next-fits, low-ready, low-stops, high-ready, high-stops, remember-asks, implied, start-ready, whole-says}
 use Rattle.frame.specs.declared.Size.{Size}
-use Rattle.frame.specs.Held.{Kept, Tab, Sized, Operand, Tests, Reads}
+use Rattle.frame.specs.Held.{Kept, Tab, Sized, Operand, Tests}
 use Rattle.frame.proofs.Views.{front-less}
 use Rattle.frame_join.specs.declared.Place.{Place}
 use Rattle.frame_join.specs.Framed.{leftPart, rightPart, memoPart, Layout, SplittingIn}

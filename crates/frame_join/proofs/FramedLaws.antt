@@ -1,10 +1,10 @@
 -- The join over parts of one slice: its laws are the join's, over the parts, since nothing below the result is written.
-use mathlib.Core.Path.{_≡_, refl, sym, ap, subst, _∙_}
+use mathlib.Core.Path.{_≡_, refl, sym, subst, _∙_}
 use mathlib.Core.List.{List}
 use Prim.Native.Nat.{ℕ, _+_, _-_, _*_, _<_, _≤_}
 use native.Mathlib.Omega.{arith}
-use lib.ListN.{length, take, drop}
-use Rattle.theory.specs.Table.{mk, walk}
+use lib.ListN.{length, take}
+use Rattle.theory.specs.Table.{mk}
 use Rattle.theory.specs.Words.{stride, nodes}
 use Rattle.refusal.specs.Limits.{maxNodes}
 use Rattle.table.specs.declared.BddPointer.{BddPointer}
@@ -15,11 +15,10 @@ use Rattle.join.specs.declared.Job.{Job}
 use Rattle.join.specs.declared.Cut.{Cut}
 use Rattle.join.specs.declared.Step.{Step}
 use Rattle.join.specs.declared.Step.the-variants.{Known, Fork}
-use Rattle.join.specs.Task.{pairTree}
 use Rattle.join.specs.Memo.{ways, Stores}
-use Rattle.join.specs.Joining.{taskOf, Splits, Parted, knownIn, Settling, Settled, Settles, Joining, Joined, Joins}
+use Rattle.join.specs.Joining.{taskOf, Splits, Parted, knownIn, Settled, Settles, Joining, Joined, Joins}
 use Rattle.join.proofs.JoinLaws.{settle-full, remember-asks, settled, splitting, step-known, step-parted, deeper, next-fits, low-ready, side-full, side-got, low-full, high-ready, high-full, settling, finish}
-use Rattle.frame.specs.Held.{part, Kept}
+use Rattle.frame.specs.Held.{Kept}
 use Rattle.frame.proofs.Views.{part-front, part-back, part-as-long, front-less}
 use Rattle.frame_join.specs.declared.Place.{Place}
 use Rattle.frame_join.specs.Framed.{leftPart, rightPart, outPart, memoPart, Layout, SplittingIn, SettlingIn, JoiningIn}

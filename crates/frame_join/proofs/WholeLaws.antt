@@ -1,11 +1,11 @@
 -- The whole join in one slice, and the operations by it.
-use mathlib.Core.Path.{_≡_, refl, sym, ap, ap₂, subst, _∙_}
-use mathlib.Core.Bool.{Bool, true, false, not, _||_, _&&_}
+use mathlib.Core.Path.{_≡_, sym, ap, ap₂, subst, _∙_}
+use mathlib.Core.Bool.{Bool, true, false}
 use mathlib.Core.List.{List}
-use Prim.Native.Nat.{ℕ, _+_, _-_, _*_, _<_, _≤_}
+use Prim.Native.Nat.{ℕ, _+_, _-_, _*_, _≤_}
 use native.Mathlib.Omega.{arith}
 use lib.ListN.{length, take}
-use Rattle.theory.specs.Tree.{Tree, Deep, pointwise, cofactor, forAllMark, existsMark}
+use Rattle.theory.specs.Tree.{Tree, Deep, pointwise, cofactor}
 use Rattle.theory.specs.Table.{constants}
 use Rattle.theory.specs.Words.{stride, nodes}
 use Rattle.theory.proofs.Cases.{pointwise-deep, cofactor-deep}
@@ -21,7 +21,7 @@ use Rattle.join.proofs.WholeLaws.{start-ready, whole-over, whole-count}
 use Rattle.frame.specs.declared.Size.{Size}
 use Rattle.frame.specs.declared.Made.{Made}
 use Rattle.frame.specs.declared.Made.the-variants.{Count, Over}
-use Rattle.frame.specs.Held.{part, Kept, Tab, Sized, Lies, Operand, Left, Gives, Turns, Joins}
+use Rattle.frame.specs.Held.{Kept, Tab, Sized, Lies, Operand, Left, Gives, Turns, Joins}
 use Rattle.frame.proofs.Views.{part-front, part-back, part-long, front-less, tab-means, tab-sound, sized-of, leaves-over, leaves-count, left-gives}
 use Rattle.frame_join.specs.declared.Place.{Place}
 use Rattle.frame_join.specs.Framed.{leftPart, rightPart, outPart, memoPart, Layout, JoiningIn, GivenIn}

@@ -1,5 +1,4 @@
 -- A join inside one slice: where its parts stand, and what it asks and ensures of them.
-use mathlib.Core.Path.{_≡_}
 use mathlib.Core.List.{List}
 use Prim.Native.Nat.{ℕ, _+_, _*_, _≤_}
 use lib.ListN.{length}

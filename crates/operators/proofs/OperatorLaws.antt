@@ -2,11 +2,11 @@
 use mathlib.Core.Path.{_≡_, refl, sym, ap, ap₂, subst, _∙_}
 use mathlib.Core.Bool.{Bool, true, false}
 use mathlib.Core.List.{List, []}
-use Prim.Native.Nat.{ℕ, zero, suc, _-_, _<_, _≤_, max}
+use Prim.Native.Nat.{ℕ, _-_, _<_, _≤_, max}
 use native.Mathlib.Omega.{arith}
 use lib.Dec.{ltb}
 use lib.ListN.{length}
-use Rattle.theory.specs.Tree.{Tree, leaf, fork, Deep, pointwise, cofactor}
+use Rattle.theory.specs.Tree.{Tree, pointwise, cofactor}
 use Rattle.theory.specs.Table.{canon, meaning}
 use Rattle.theory.specs.Words.{nodes}
 use Rattle.refusal.specs.Number.{order}
@@ -32,7 +32,7 @@ use Rattle.join.specs.Task.{opOf}
 use Rattle.join.specs.Joining.{joinedBy, Given}
 use Rattle.join.proofs.TruthLaws.{cofactor-none}
 use Rattle.operators.proofs.OperatesLaws.{meaning-deep}
-use Rattle.operators.specs.Operators.{andNot, pairJob, markJob}
+use Rattle.operators.specs.Operators.{pairJob, markJob}
 
 -- ---- the join, settled
 pub joined-outcome : (n room : ℕ) (g : Tree) (out₁ out out′ work₁ work work′ : List ℕ) → length out₁ ≡ length out → length work₁ ≡ length work → (tabled : Tabled) (r : Made)

@@ -1,4 +1,3 @@
-use native.Mathlib.Omega.{arith}
 use Rattle.frame_carry.proofs.FramedLaws.{node-asks, full-in, keep-asks, finished-in}
 use borrow.Author.Needs.{needs}
 use Rattle.frame_carry.proofs.finish_in.Statement.{statement}
