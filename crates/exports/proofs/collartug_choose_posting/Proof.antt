@@ -20,7 +20,7 @@ same-length c = search needs
 
 returns : tie.Need-returns
 unfolding replied
-returns c = exported _ _ _ _ _ (posts (c .before .before .before .before .before .before .before .args .dnf .now) (c .before .before .before .before .before .before .before .args .cnf .now)) (c .before .before .write-reply .ensures) (c .before .before .before .part-written .ensures) (ap (λ p. gives (partValues p)) (c .before .before .before .before .choose-posting .ensures .0))
+returns c = exported _ _ _ _ _ (posts (c .before .before .before .before .before .before .before .before .before .args .dnf .now) (c .before .before .before .before .before .before .before .before .before .args .cnf .now)) (c .before .before .write-reply .ensures) (c .before .before .before .part-written .ensures) (ap (λ p. gives (partValues p)) (c .before .before .before .before .choose-posting .ensures .0))
 
 pub collartug-choose-posting-spec : {M : Type 1} → statement M
 collartug-choose-posting-spec =
