@@ -12,6 +12,6 @@ pub fn walk_check(room: Room, n: u16, count: usize, nodes: &[u32]) -> Outcome {
 }
 
 /// Step k of a fresh walk, counted from 0.
-pub fn kth_step(room: Room, n: u16, count: usize, nodes: &[u32], k: u32) -> Outcome {
-    room.call(|reply, len| unsafe { collartug_kth_step(n, count, nodes.as_ptr(), nodes.len(), k, reply, len) })
+pub fn kth_step(room: Room, n: u16, count: usize, nodes: &[u32], k: u64) -> Outcome {
+    room.call(|reply, len| unsafe { collartug_kth_step(n, count, nodes.as_ptr(), nodes.len(), k.try_into().unwrap(), reply, len) })
 }
