@@ -4,3 +4,4 @@ pub mod LeafLaws
 pub mod SplitLaws
 pub mod JoinLaws
 pub mod WholeLaws
+pub mod TruthLaws

@@ -1,12 +1,11 @@
 -- An operator's three equations, from its admission and the join.
 use mathlib.Core.Path.{_≡_, refl, sym, ap, ap₂, subst, _∙_}
-use mathlib.Core.Bool.{Bool, true, false, not, _||_, _&&_}
+use mathlib.Core.Bool.{Bool, true, false}
 use mathlib.Core.List.{List, []}
 use Prim.Native.Nat.{ℕ, zero, suc, _-_, _<_, _≤_, max}
 use native.Mathlib.Omega.{arith}
 use lib.Dec.{ltb}
 use lib.ListN.{length}
-use Rattle.theory.specs.Mask.{bit}
 use Rattle.theory.specs.Tree.{Tree, leaf, fork, Deep, pointwise, cofactor}
 use Rattle.theory.specs.Table.{Table, canon, meaning}
 use Rattle.theory.specs.Words.{nodes}
@@ -33,48 +32,9 @@ use Rattle.admission.proofs.Admitted.{refused-outcome, Roomed, mark-quiet, mark
 use Rattle.join.specs.declared.Job.{Job}
 use Rattle.join.specs.Task.{opOf}
 use Rattle.join.specs.Joining.{joinedBy, Given}
+use Rattle.join.proofs.TruthLaws.{cofactor-none}
 use Rattle.operators.proofs.OperatesLaws.{meaning-deep}
 use Rattle.operators.specs.Operators.{andNot, pairJob, markJob}
-
--- ---- the truth tables
-pub and-table : opOf 8 ≡ _&&_
-unfolding opOf bit
-and-table = λ i x y. entry x y i
-  where
-    entry : (x y : Bool) → opOf 8 x y ≡ x && y
-    entry true true = refl
-    entry true false = refl
-    entry false true = refl
-    entry false false = refl
-
-pub or-table : opOf 14 ≡ _||_
-unfolding opOf bit
-or-table = λ i x y. entry x y i
-  where
-    entry : (x y : Bool) → opOf 14 x y ≡ x || y
-    entry true true = refl
-    entry true false = refl
-    entry false true = refl
-    entry false false = refl
-
-pub and-not-table : opOf 4 ≡ andNot
-unfolding opOf bit
-and-not-table = λ i x y. entry x y i
-  where
-    entry : (x y : Bool) → opOf 4 x y ≡ andNot x y
-    entry true true = refl
-    entry true false = refl
-    entry false true = refl
-    entry false false = refl
-
--- a mark that the function has not sets nothing
-cofactor-none : (k i : ℕ) (b : Bool) (t : Tree) → Deep k t → k ≤ i → cofactor i b t ≡ t
-unfolding cofactor
-cofactor-none zero i b (leaf c) d h = refl
-cofactor-none zero i b (fork lo hi) d h = absurd d
-cofactor-none (suc k) i b (leaf c) d h = absurd d
-cofactor-none (suc k) zero b (fork lo hi) d h = absurd (let z : ⊥ = omega arith in z)
-cofactor-none (suc k) (suc i) b (fork lo hi) d h = ap₂ fork (cofactor-none k i b lo (d .0) (omega arith)) (cofactor-none k i b hi (d .1) (omega arith))
 
 -- ---- the join, settled
 pub leaves-settling : (over : Bool) (place : ℕ) (t : Table) (out : List ℕ) (tabled : Tabled) → Leaves over place t out tabled → Settling tabled out

@@ -1,5 +1,6 @@
 use Rattle.operators.specs.Operators.{makesAnd}
-use Rattle.operators.proofs.OperatorLaws.{and-table, three, pair-refused, pair-few, pair-given, pair-outcome}
+use Rattle.join.proofs.TruthLaws.{and-table}
+use Rattle.operators.proofs.OperatorLaws.{three, pair-refused, pair-few, pair-given, pair-outcome}
 use borrow.Author.Needs.{needs}
 use Rattle.operators.proofs.and.Statement.{statement}
 use Rattle.operators.proofs.and.Tie as tie

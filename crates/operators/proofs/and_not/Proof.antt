@@ -1,5 +1,6 @@
 use Rattle.operators.specs.Operators.{makesAndNot}
-use Rattle.operators.proofs.OperatorLaws.{and-not-table, three, pair-refused, pair-few, pair-given, pair-outcome}
+use Rattle.join.proofs.TruthLaws.{and-not-table}
+use Rattle.operators.proofs.OperatorLaws.{three, pair-refused, pair-few, pair-given, pair-outcome}
 use borrow.Author.Needs.{needs}
 use Rattle.operators.proofs.and_not.Statement.{statement}
 use Rattle.operators.proofs.and_not.Tie as tie

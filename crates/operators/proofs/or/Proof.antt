@@ -1,5 +1,6 @@
 use Rattle.operators.specs.Operators.{makesOr}
-use Rattle.operators.proofs.OperatorLaws.{or-table, three, pair-refused, pair-few, pair-given, pair-outcome}
+use Rattle.join.proofs.TruthLaws.{or-table}
+use Rattle.operators.proofs.OperatorLaws.{three, pair-refused, pair-few, pair-given, pair-outcome}
 use borrow.Author.Needs.{needs}
 use Rattle.operators.proofs.or.Statement.{statement}
 use Rattle.operators.proofs.or.Tie as tie

@@ -1,5 +1,6 @@
 use Rattle.operators.specs.Operators.{makesExists}
-use Rattle.operators.proofs.OperatorLaws.{or-table, three, mark-refused, mark-few, mark-given, mark-outcome}
+use Rattle.join.proofs.TruthLaws.{or-table}
+use Rattle.operators.proofs.OperatorLaws.{three, mark-refused, mark-few, mark-given, mark-outcome}
 use borrow.Author.Needs.{needs}
 use Rattle.operators.proofs.var_exists.Statement.{statement}
 use Rattle.operators.proofs.var_exists.Tie as tie

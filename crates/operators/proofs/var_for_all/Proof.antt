@@ -1,5 +1,6 @@
 use Rattle.operators.specs.Operators.{makesForAll}
-use Rattle.operators.proofs.OperatorLaws.{and-table, three, mark-refused, mark-few, mark-given, mark-outcome}
+use Rattle.join.proofs.TruthLaws.{and-table}
+use Rattle.operators.proofs.OperatorLaws.{three, mark-refused, mark-few, mark-given, mark-outcome}
 use borrow.Author.Needs.{needs}
 use Rattle.operators.proofs.var_for_all.Statement.{statement}
 use Rattle.operators.proofs.var_for_all.Tie as tie
