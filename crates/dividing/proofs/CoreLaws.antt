@@ -65,11 +65,14 @@ module _ (q : Size) (f kf m kc most : ℕ) (w : List ℕ) (fr : InFrame w q f kf
         step-more w₃ k₃ p l = (
           k₃ ∙ front-less (coreAt q f) (tryAt q f) w w₂ (omega arith) below,
           (λ F best tf tb e.
-            let a : Tab (q .n) w₁ (tryAt q f) ke (forAllMark m F) × (ke ≤ q .room) = made F tf in
-            let z : ltb (caseCount best) (caseCount (forAllMark m F)) ≡ true = lt-ltb (caseCount best) (caseCount (forAllMark m F)) (omega (arith, n (forAllMark m F) (a .0))) in
-            rw z
-            (p (forAllMark m F) (tab-kept (q .n) w₁ (tryAt q f) ke (forAllMark m F) (a .0) w₂ (q .mem) (omega (arith, a .1, fr .lies .below, fr .lies .room)) k₂ l₂),
-            a .1, n (forAllMark m F) (a .0), one-yes q w₁ (tryAt q f) ke (forAllMark m F) (a .0) (a .1))),
+              let a : Tab (q .n) w₁ (tryAt q f) ke (forAllMark m F) × (ke ≤ q .room) = made F tf in
+              let z : ltb (caseCount best) (caseCount (forAllMark m F)) ≡ true = lt-ltb (caseCount best) (caseCount (forAllMark m F)) (omega (arith, n (forAllMark m F) (a .0))) in
+              rw z (
+                p (forAllMark m F) (tab-kept (q .n) w₁ (tryAt q f) ke (forAllMark m F) (a .0) w₂ (q .mem) (omega (arith, a .1, fr .lies .below, fr .lies .room)) k₂ l₂),
+                a .1,
+                n (forAllMark m F) (a .0),
+                one-yes q w₁ (tryAt q f) ke (forAllMark m F) (a .0) (a .1),
+              )),
         )
 
         pub step-less : c ≤ most → (take (coreAt q f) w₂ ≡ take (coreAt q f) w) × CoreSteps w w₂ q f kf m kc most (Best kc most)
@@ -77,11 +80,14 @@ module _ (q : Size) (f kf m kc most : ℕ) (w : List ℕ) (fr : InFrame w q f kf
         step-less l = (
           front-less (coreAt q f) (tryAt q f) w w₂ (omega arith) below,
           (λ F best tf tb e.
-            let a : Tab (q .n) w₁ (tryAt q f) ke (forAllMark m F) × (ke ≤ q .room) = made F tf in
-            let z : ltb (caseCount best) (caseCount (forAllMark m F)) ≡ false = le-ltb (caseCount best) (caseCount (forAllMark m F)) (omega (arith, n (forAllMark m F) (a .0))) in
-            rw z
-            (tab-kept (q .n) w (coreAt q f) kc best tb w₂ (tryAt q f) (omega (arith, st .fits, fr .lies .room)) below (l₂ ∙ l₁),
-            st .fits, e, one-yes q w₁ (tryAt q f) ke (forAllMark m F) (a .0) (a .1))),
+              let a : Tab (q .n) w₁ (tryAt q f) ke (forAllMark m F) × (ke ≤ q .room) = made F tf in
+              let z : ltb (caseCount best) (caseCount (forAllMark m F)) ≡ false = le-ltb (caseCount best) (caseCount (forAllMark m F)) (omega (arith, n (forAllMark m F) (a .0))) in
+              rw z (
+                tab-kept (q .n) w (coreAt q f) kc best tb w₂ (tryAt q f) (omega (arith, st .fits, fr .lies .room)) below (l₂ ∙ l₁),
+                st .fits,
+                e,
+                one-yes q w₁ (tryAt q f) ke (forAllMark m F) (a .0) (a .1),
+              )),
         )
 
 -- ---- all marks
@@ -171,8 +177,8 @@ module _ (q : Size) (f kf s : ℕ) (w : List ℕ) (fr : InFrame w q f kf) (sup :
       core-over e = (
         k₂ ∙ inv .low ∙ k₀,
         (λ F t. only (q .n) w₀ f kf (inv .tree) (inv .tab) (λ G. allFit (q .room) (q .n) (forAlls G (supportMarks (q .n) G)) ≡ false)
-          (sym (inv .calls) ∙ all-next (q .room) (q .n) rest m (inv .tree) nx ∙ ap (λ v. v && allFit (q .room) (q .n) (forAlls (inv .tree) (marksOf (q .n) (setBit m false rest)))) (stepped TooLarge e))
-          F (there F t)),
+            (sym (inv .calls) ∙ all-next (q .room) (q .n) rest m (inv .tree) nx ∙ ap (λ v. v && allFit (q .room) (q .n) (forAlls (inv .tree) (marksOf (q .n) (setBit m false rest)))) (stepped TooLarge e))
+            F (there F t)),
       )
 
   pub core-end : (w₁ : List ℕ) (kc most rest : ℕ) → rest ≡ 0 → CoreInv q w₀ w₁ f kf kc most rest → (take (coreAt q f) w₁ ≡ take (coreAt q f) w) × Cores w w₁ q f kf (Best kc most)
@@ -180,8 +186,9 @@ module _ (q : Size) (f kf s : ℕ) (w : List ℕ) (fr : InFrame w q f kf) (sup :
   core-end w₁ kc most rest h inv =
       let none : marksOf (q .n) rest ≡ [] = ap (marksOf (q .n)) h ∙ marks-of-zero (q .n) in
       let z : inv .best ≡ coreOf (q .n) (inv .tree) = rw none at (inv .goes) in
-      let y : true ≡ allFit (q .room) (q .n) (forAlls (inv .tree) (supportMarks (q .n) (inv .tree))) = rw none at (inv .calls) in
-      (inv .low ∙ k₀,
-      (λ F t. only (q .n) w₀ f kf (inv .tree) (inv .tab) (λ G. CoreGiven q w₁ (coreAt q f) (coreOf (q .n) G) (forAlls G (supportMarks (q .n) G)) (Best kc most))
-        (subst (λ g. Tab (q .n) w₁ (coreAt q f) kc g) z (inv .stands), inv .fits, inv .cases ∙ ap caseCount z, sym y)
-        F (there F t)))
+      let y : true ≡ allFit (q .room) (q .n) (forAlls (inv .tree) (supportMarks (q .n) (inv .tree))) = rw none at (inv .calls) in (
+        inv .low ∙ k₀,
+        (λ F t. only (q .n) w₀ f kf (inv .tree) (inv .tab) (λ G. CoreGiven q w₁ (coreAt q f) (coreOf (q .n) G) (forAlls G (supportMarks (q .n) G)) (Best kc most))
+            (subst (λ g. Tab (q .n) w₁ (coreAt q f) kc g) z (inv .stands), inv .fits, inv .cases ∙ ap caseCount z, sym y)
+            F (there F t)),
+      )

@@ -34,9 +34,12 @@ three room n F = all-append room n (forAlls F (supportMarks n F)) _ ∙ ap (λ v
 module _ (q : Size) (f kf : ℕ) (w : List ℕ) (pre : DivideReady w q f kf) (s : ℕ) (sup : Supports (q .n) w f kf s)
     (w₁ : List ℕ) (k₁ : take (coreAt q f) w₁ ≡ take (coreAt q f) w) (l₁ : length w₁ ≡ length w) (r₁ : Cored) (c₁ : Cores w w₁ q f kf r₁) where
   pub over-core : r₁ ≡ cored.TooLarge → (take (coreAt q f) w₁ ≡ take (coreAt q f) w) × Divides w w₁ q f kf divided.TooLarge
-  over-core e = (k₁, λ F t. three (q .room) (q .n) F
-      ∙ ap (λ v. v && (allFit (q .room) (q .n) (restCalls (q .n) F) && allFit (q .room) (q .n) (restrictions (restOf (q .n) F) (supportMarks (q .n) F))))
-      (subst (λ z. CoreGiven q w₁ (coreAt q f) (coreOf (q .n) F) (forAlls F (supportMarks (q .n) F)) z) e (c₁ F t)))
+  over-core e = (
+    k₁,
+    λ F t. three (q .room) (q .n) F
+        ∙ ap (λ v. v && (allFit (q .room) (q .n) (restCalls (q .n) F) && allFit (q .room) (q .n) (restrictions (restOf (q .n) F) (supportMarks (q .n) F))))
+        (subst (λ z. CoreGiven q w₁ (coreAt q f) (coreOf (q .n) F) (forAlls F (supportMarks (q .n) F)) z) e (c₁ F t)),
+  )
 
   module _ (kc most : ℕ) (e₁ : r₁ ≡ cored.Best kc most) where
     core-is : (F : Tree) → Tab (q .n) w f kf F → CoreGiven q w₁ (coreAt q f) (coreOf (q .n) F) (forAlls F (supportMarks (q .n) F)) (cored.Best kc most)
@@ -76,9 +79,12 @@ module _ (q : Size) (f kf : ℕ) (w : List ℕ) (pre : DivideReady w q f kf) (s 
       none false b = refl
 
       pub over-rest : r₂ ≡ Over → (take (coreAt q f) w₂ ≡ take (coreAt q f) w) × Divides w w₂ q f kf divided.TooLarge
-      over-rest e = (low₂, λ F t. three (q .room) (q .n) F
-          ∙ ap (λ v. allFit (q .room) (q .n) (forAlls F (supportMarks (q .n) F)) && (v && allFit (q .room) (q .n) (restrictions (restOf (q .n) F) (supportMarks (q .n) F)))) (rest-given F t Over e)
-          ∙ none (allFit (q .room) (q .n) (forAlls F (supportMarks (q .n) F))) (allFit (q .room) (q .n) (restrictions (restOf (q .n) F) (supportMarks (q .n) F))))
+      over-rest e = (
+        low₂,
+        λ F t. three (q .room) (q .n) F
+            ∙ ap (λ v. allFit (q .room) (q .n) (forAlls F (supportMarks (q .n) F)) && (v && allFit (q .room) (q .n) (restrictions (restOf (q .n) F) (supportMarks (q .n) F)))) (rest-given F t Over e)
+            ∙ none (allFit (q .room) (q .n) (forAlls F (supportMarks (q .n) F))) (allFit (q .room) (q .n) (restrictions (restOf (q .n) F) (supportMarks (q .n) F))),
+      )
 
       module _ (kg : ℕ) (e₂ : r₂ ≡ Count kg) where
         rest-is : (F : Tree) → Tab (q .n) w f kf F → GivesAll q w₂ (restAt q f) (restOf (q .n) F) (restCalls (q .n) F) (Count kg)
@@ -99,7 +105,7 @@ module _ (q : Size) (f kf : ℕ) (w : List ℕ) (pre : DivideReady w q f kf) (s 
         module _ (w₃ : List ℕ) (k₃ : take (tryAt q f) w₃ ≡ take (tryAt q f) w₂) (l₃ : length w₃ ≡ length w₂) (r₃ : Marked) (c₃ : MarkSteps w₂ q f kg (marksOf (q .n) s) 0 (2 * q .room + 1) r₃) where
           marks-given : (F : Tree) → Tab (q .n) w f kf F → (z : Marked) → r₃ ≡ z → Picks q (restOf (q .n) F) (supportMarks (q .n) F) 0 (2 * q .room + 1) z
           marks-given F t z e = subst (λ x. Picks q (restOf (q .n) F) (marksOf (q .n) x) 0 (2 * q .room + 1) z) (sup F t)
-            (subst (λ z. Picks q (restOf (q .n) F) (marksOf (q .n) s) 0 (2 * q .room + 1) z) e (c₃ (restOf (q .n) F) (rest-is F t .0)))
+              (subst (λ z. Picks q (restOf (q .n) F) (marksOf (q .n) s) 0 (2 * q .room + 1) z) e (c₃ (restOf (q .n) F) (rest-is F t .0)))
 
           low₃ : take (coreAt q f) w₃ ≡ take (coreAt q f) w
           low₃ = front-less (coreAt q f) (tryAt q f) w₂ w₃ (omega arith) k₃ ∙ low₂
@@ -110,19 +116,26 @@ module _ (q : Size) (f kf : ℕ) (w : List ℕ) (pre : DivideReady w q f kf) (s 
           last false b = refl
 
           pub over-mark : r₃ ≡ marked.TooLarge → (take (coreAt q f) w₃ ≡ take (coreAt q f) w) × Divides w w₃ q f kf divided.TooLarge
-          over-mark e = (low₃, λ F t. three (q .room) (q .n) F
-              ∙ ap (λ v. allFit (q .room) (q .n) (forAlls F (supportMarks (q .n) F)) && (allFit (q .room) (q .n) (restCalls (q .n) F) && v)) (marks-given F t marked.TooLarge e)
-              ∙ last (allFit (q .room) (q .n) (forAlls F (supportMarks (q .n) F))) (allFit (q .room) (q .n) (restCalls (q .n) F)))
+          over-mark e = (
+            low₃,
+            λ F t. three (q .room) (q .n) F
+                ∙ ap (λ v. allFit (q .room) (q .n) (forAlls F (supportMarks (q .n) F)) && (allFit (q .room) (q .n) (restCalls (q .n) F) && v)) (marks-given F t marked.TooLarge e)
+                ∙ last (allFit (q .room) (q .n) (forAlls F (supportMarks (q .n) F))) (allFit (q .room) (q .n) (restCalls (q .n) F)),
+          )
 
           pub divided-into : (x : BddVariable) (t : ℕ) → r₃ ≡ marked.Least x t → (take (coreAt q f) w₃ ≡ take (coreAt q f) w) × Divides w w₃ q f kf (divided.Into (record { core = kc; rest = kg; mark = x }))
           unfolding markOf
-          divided-into x t e = (low₃, λ F tf.
-              let a : CoreGiven q w₁ (coreAt q f) (coreOf (q .n) F) (forAlls F (supportMarks (q .n) F)) (cored.Best kc most) = core-is F tf in
-              let b : GivesAll q w₂ (restAt q f) (restOf (q .n) F) (restCalls (q .n) F) (Count kg) = rest-is F tf in
-              let p : Picks q (restOf (q .n) F) (supportMarks (q .n) F) 0 (2 * q .room + 1) (marked.Least x t) = marks-given F tf (marked.Least x t) e in
-              (tab-kept (q .n) w₁ (coreAt q f) kc (coreOf (q .n) F) (a .0) w₃ (restAt q f) (omega (arith, a .1, pre .frame .lies .room)) (front-less (restAt q f) (tryAt q f) w₂ w₃ (omega arith) k₃ ∙ k₂) (l₃ ∙ l₂),
-              a .1,
-              tab-kept (q .n) w₂ (restAt q f) kg (restOf (q .n) F) (b .0) w₃ (tryAt q f) (omega (arith, b .1, pre .frame .lies .room)) k₃ l₃,
-              b .1,
-              ap (λ z. z .0) (p .0) ∙ pick-chosen (q .room) (q .n) (restOf (q .n) F) (supportMarks (q .n) F) (p .1),
-              three (q .room) (q .n) F ∙ ap₂ (λ u v. u && v) (a .3) (ap₂ (λ u v. u && v) (b .2) (p .1))))
+          divided-into x t e = (
+            low₃,
+            λ F tf.
+                let a : CoreGiven q w₁ (coreAt q f) (coreOf (q .n) F) (forAlls F (supportMarks (q .n) F)) (cored.Best kc most) = core-is F tf in
+                let b : GivesAll q w₂ (restAt q f) (restOf (q .n) F) (restCalls (q .n) F) (Count kg) = rest-is F tf in
+                let p : Picks q (restOf (q .n) F) (supportMarks (q .n) F) 0 (2 * q .room + 1) (marked.Least x t) = marks-given F tf (marked.Least x t) e in (
+                  tab-kept (q .n) w₁ (coreAt q f) kc (coreOf (q .n) F) (a .0) w₃ (restAt q f) (omega (arith, a .1, pre .frame .lies .room)) (front-less (restAt q f) (tryAt q f) w₂ w₃ (omega arith) k₃ ∙ k₂) (l₃ ∙ l₂),
+                  a .1,
+                  tab-kept (q .n) w₂ (restAt q f) kg (restOf (q .n) F) (b .0) w₃ (tryAt q f) (omega (arith, b .1, pre .frame .lies .room)) k₃ l₃,
+                  b .1,
+                  ap (λ z. z .0) (p .0) ∙ pick-chosen (q .room) (q .n) (restOf (q .n) F) (supportMarks (q .n) F) (p .1),
+                  three (q .room) (q .n) F ∙ ap₂ (λ u v. u && v) (a .3) (ap₂ (λ u v. u && v) (b .2) (p .1)),
+                ),
+          )

@@ -53,9 +53,14 @@ module _ (q : Size) (f kg m : ℕ) (best least : ℕ) (w : List ℕ) (pre : Mark
 
       pub over-low : r₂ ≡ Over → (take (tryAt q f) w₂ ≡ take (tryAt q f) w) × MarkSteps w q f kg (m ∷ []) best least TooLarge
       unfolding restrictions allFit
-      over-low i = (k₂ ∙ k₁, λ G tg.
-          rw (fits-yes (q .room) (q .n) k1 (cofactor m true G) (high G tg .0 .count) (high G tg .1),
-          fits-no (q .room) (q .n) (cofactor m false G) (subst (λ z. Turns (cofactor m false) q w₁ w₂ (restAt q f) kg (tryAt q f) z) i t₂ G (there G tg))))
+      over-low i = (
+        k₂ ∙ k₁,
+        λ G tg.
+            rw (
+              fits-yes (q .room) (q .n) k1 (cofactor m true G) (high G tg .0 .count) (high G tg .1),
+              fits-no (q .room) (q .n) (cofactor m false G) (subst (λ z. Turns (cofactor m false) q w₁ w₂ (restAt q f) kg (tryAt q f) z) i t₂ G (there G tg)),
+            ),
+      )
 
       module _ (k0 : ℕ) (i₂ : r₂ ≡ Count k0) where
         low : (G : Tree) → Tab (q .n) w (restAt q f) kg G → Tab (q .n) w₂ (tryAt q f) k0 (cofactor m false G) × (k0 ≤ q .room)
@@ -73,15 +78,21 @@ module _ (q : Size) (f kg m : ℕ) (best least : ℕ) (w : List ℕ) (pre : Mark
 
         pub step-new : (x : BddVariable) → x .0 ≡ m → k1 + k0 < least → (take (tryAt q f) w₂ ≡ take (tryAt q f) w) × MarkSteps w q f kg (m ∷ []) best least (Least x (k1 + k0))
         unfolding pickFrom
-        step-new x e h = (k₂ ∙ k₁, λ G tg.
-            let c : ltb (nodeTotal (q .n) G m) least ≡ true = lt-ltb (nodeTotal (q .n) G m) least (omega (arith, sum-is G tg)) in
-            (rw c (ap₂ (λ a b. (a, b)) e (sum-is G tg)), both G tg))
+        step-new x e h = (
+          k₂ ∙ k₁,
+          λ G tg.
+              let c : ltb (nodeTotal (q .n) G m) least ≡ true = lt-ltb (nodeTotal (q .n) G m) least (omega (arith, sum-is G tg)) in
+              (rw c (ap₂ (λ a b. (a, b)) e (sum-is G tg)), both G tg),
+        )
 
         pub step-old : (x : BddVariable) → x .0 ≡ best → least ≤ k1 + k0 → (take (tryAt q f) w₂ ≡ take (tryAt q f) w) × MarkSteps w q f kg (m ∷ []) best least (Least x least)
         unfolding pickFrom
-        step-old x e h = (k₂ ∙ k₁, λ G tg.
-            let c : ltb (nodeTotal (q .n) G m) least ≡ false = le-ltb (nodeTotal (q .n) G m) least (omega (arith, sum-is G tg)) in
-            (rw c (ap (λ a. (a, least)) e), both G tg))
+        step-old x e h = (
+          k₂ ∙ k₁,
+          λ G tg.
+              let c : ltb (nodeTotal (q .n) G m) least ≡ false = le-ltb (nodeTotal (q .n) G m) least (omega (arith, sum-is G tg)) in
+              (rw c (ap (λ a. (a, least)) e), both G tg),
+        )
 
 -- ---- all marks
 pick-cons : (n : ℕ) (g : Tree) (x : ℕ) (xs : List ℕ) (best least b l : ℕ) → _≡_ {A = ℕ × ℕ} (b, l) (pickFrom n g (x ∷ []) best least) → pickFrom n g (x ∷ xs) best least ≡ pickFrom n g xs b l
@@ -161,7 +172,7 @@ module _ (q : Size) (f kg s₀ : ℕ) (w : List ℕ) (pre : MarkReady w q f kg) 
       after : (v : Bool) → allFit (q .room) (q .n) (restrictions (inv .tree) (m ∷ [])) ≡ v
           → allFit (q .room) (q .n) (restrictions (inv .tree) (marksOf (q .n) s₀)) ≡ v && allFit (q .room) (q .n) (restrictions (inv .tree) (marksOf (q .n) (setBit m false rest)))
       after v e = sym (inv .calls) ∙ ap (λ xs. allFit (q .room) (q .n) (restrictions (inv .tree) xs)) (nx .splits) ∙ two-cons (q .room) (q .n) (inv .tree) m _
-        ∙ ap (λ a. a && allFit (q .room) (q .n) (restrictions (inv .tree) (marksOf (q .n) (setBit m false rest)))) e
+          ∙ ap (λ a. a && allFit (q .room) (q .n) (restrictions (inv .tree) (marksOf (q .n) (setBit m false rest)))) e
 
       pub mark-again : (x : BddVariable) (t : ℕ) → r ≡ Least x t → (s′ : ℕ) → s′ ≡ setBit m false rest → MarkInv q w w₂ f kg s₀ (x .0) t s′
       mark-again x t e s′ es =

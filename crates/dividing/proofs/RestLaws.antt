@@ -71,22 +71,26 @@ module _ (q : Size) (f kf m kg : ℕ) (w : List ℕ) (fr : InFrame w q f kf) (st
         step-take w₃ k₃ p h = (
           k₃ ∙ front-less (restAt q f) (tryAt q f) w w₂ (omega arith) below,
           (λ F R tf tg.
-            let a : Tab (q .n) w₁ (tryAt q f) ke (existsMark m R) × (ke ≤ q .room) = made R tg in
-            let c : inside (existsMark m R) F ≡ true = sym (n (existsMark m R) F (a .0) (there F tf)) ∙ h in
-            rw c
-            (p (existsMark m R) (tab-kept (q .n) w₁ (tryAt q f) ke (existsMark m R) (a .0) w₂ (q .mem) (omega (arith, a .1, fr .lies .below, fr .lies .room)) k₂ l₂),
-            a .1, one-yes q w₁ (tryAt q f) ke (existsMark m R) (a .0) (a .1))),
+              let a : Tab (q .n) w₁ (tryAt q f) ke (existsMark m R) × (ke ≤ q .room) = made R tg in
+              let c : inside (existsMark m R) F ≡ true = sym (n (existsMark m R) F (a .0) (there F tf)) ∙ h in
+              rw c (
+                p (existsMark m R) (tab-kept (q .n) w₁ (tryAt q f) ke (existsMark m R) (a .0) w₂ (q .mem) (omega (arith, a .1, fr .lies .below, fr .lies .room)) k₂ l₂),
+                a .1,
+                one-yes q w₁ (tryAt q f) ke (existsMark m R) (a .0) (a .1),
+              )),
         )
 
         pub step-leave : v ≡ false → (take (restAt q f) w₂ ≡ take (restAt q f) w) × RestSteps w w₂ q f kf m kg (Count kg)
         step-leave h = (
           front-less (restAt q f) (tryAt q f) w w₂ (omega arith) below,
           (λ F R tf tg.
-            let a : Tab (q .n) w₁ (tryAt q f) ke (existsMark m R) × (ke ≤ q .room) = made R tg in
-            let c : inside (existsMark m R) F ≡ false = sym (n (existsMark m R) F (a .0) (there F tf)) ∙ h in
-            rw c
-            (tab-kept (q .n) w (restAt q f) kg R tg w₂ (tryAt q f) (omega (arith, st .fits, fr .lies .room)) below (l₂ ∙ l₁), st .fits,
-            one-yes q w₁ (tryAt q f) ke (existsMark m R) (a .0) (a .1))),
+              let a : Tab (q .n) w₁ (tryAt q f) ke (existsMark m R) × (ke ≤ q .room) = made R tg in
+              let c : inside (existsMark m R) F ≡ false = sym (n (existsMark m R) F (a .0) (there F tf)) ∙ h in
+              rw c (
+                tab-kept (q .n) w (restAt q f) kg R tg w₂ (tryAt q f) (omega (arith, st .fits, fr .lies .room)) below (l₂ ∙ l₁),
+                st .fits,
+                one-yes q w₁ (tryAt q f) ke (existsMark m R) (a .0) (a .1),
+              )),
         )
 
 -- ---- all marks of the core
@@ -112,7 +116,7 @@ pub record RestInv (q : Size) (w₀ w : List ℕ) (f kf kc most kg s : ℕ) : Ty
   pub rest : Rest (q .n) tree (coreOf (q .n) tree) left
   pub goes : dropMarks tree (coreOf (q .n) tree) (marksOf (q .n) s) left ≡ dropMarks tree (coreOf (q .n) tree) (supportMarks (q .n) (coreOf (q .n) tree)) (remainder (q .n) tree)
   pub calls : allFit (q .room) (q .n) (triedExists tree (coreOf (q .n) tree) (marksOf (q .n) s) left)
-    ≡ allFit (q .room) (q .n) (triedExists tree (coreOf (q .n) tree) (supportMarks (q .n) (coreOf (q .n) tree)) (remainder (q .n) tree))
+      ≡ allFit (q .room) (q .n) (triedExists tree (coreOf (q .n) tree) (supportMarks (q .n) (coreOf (q .n) tree)) (remainder (q .n) tree))
 
 module _ (q : Size) (f kf kc most : ℕ) (w : List ℕ) (pre : RestReady w q f kf kc most) where
   fr : InFrame w q f kf
@@ -211,12 +215,14 @@ module _ (q : Size) (f kf kc most : ℕ) (w : List ℕ) (pre : RestReady w q f k
         rest-end h =
             let none : marksOf (q .n) rest ≡ [] = ap (marksOf (q .n)) h ∙ marks-of-zero (q .n) in
             let z : inv .left ≡ dropMarks (inv .tree) (coreOf (q .n) (inv .tree)) (supportMarks (q .n) (coreOf (q .n) (inv .tree))) (remainder (q .n) (inv .tree)) = rw none at (inv .goes) in
-            let y : true ≡ allFit (q .room) (q .n) (triedExists (inv .tree) (coreOf (q .n) (inv .tree)) (supportMarks (q .n) (coreOf (q .n) (inv .tree))) (remainder (q .n) (inv .tree))) = rw none at (inv .calls) in
-            (inv .low ∙ k₀,
-            (λ F c. rw (has F c)
-              (for-all (λ G. Tab (q .n) w₁ (restAt q f) kg (dropMarks G (coreOf (q .n) G) (supportMarks (q .n) (coreOf (q .n) G)) (remainder (q .n) G))) (subst (λ g. Tab (q .n) w₁ (restAt q f) kg g) z (inv .stands)) F c,
-              inv .fits,
-              whole F c true (for-all (λ G. allFit (q .room) (q .n) (triedExists G (coreOf (q .n) G) (supportMarks (q .n) (coreOf (q .n) G)) (remainder (q .n) G)) ≡ true) (sym y) F c))))
+            let y : true ≡ allFit (q .room) (q .n) (triedExists (inv .tree) (coreOf (q .n) (inv .tree)) (supportMarks (q .n) (coreOf (q .n) (inv .tree))) (remainder (q .n) (inv .tree))) = rw none at (inv .calls) in (
+              inv .low ∙ k₀,
+              (λ F c. rw (has F c) (
+                for-all (λ G. Tab (q .n) w₁ (restAt q f) kg (dropMarks G (coreOf (q .n) G) (supportMarks (q .n) (coreOf (q .n) G)) (remainder (q .n) G))) (subst (λ g. Tab (q .n) w₁ (restAt q f) kg g) z (inv .stands)) F c,
+                inv .fits,
+                whole F c true (for-all (λ G. allFit (q .room) (q .n) (triedExists G (coreOf (q .n) G) (supportMarks (q .n) (coreOf (q .n) G)) (remainder (q .n) G)) ≡ true) (sym y) F c),
+              )),
+            )
 
         module _ (m : ℕ) (nx : Next (q .n) rest m) (w₂ : List ℕ) (k₂ : take (restAt q f) w₂ ≡ take (restAt q f) w₁) (l₂ : length w₂ ≡ length w₁) (r : Made) (st : RestSteps w₁ w₂ q f kf m kg r) where
           is-dropped : dropped (inv .tree) (coreOf (q .n) (inv .tree)) m (inv .left) ≡ cond (inside (existsMark m (inv .left)) (inv .tree)) (existsMark m (inv .left)) (inv .left)
@@ -229,7 +235,7 @@ module _ (q : Size) (f kf kc most : ℕ) (w : List ℕ) (pre : RestReady w q f k
               → allFit (q .room) (q .n) (triedExists (inv .tree) (coreOf (q .n) (inv .tree)) (supportMarks (q .n) (coreOf (q .n) (inv .tree))) (remainder (q .n) (inv .tree)))
               ≡ v && allFit (q .room) (q .n) (triedExists (inv .tree) (coreOf (q .n) (inv .tree)) (marksOf (q .n) (setBit m false rest)) (dropped (inv .tree) (coreOf (q .n) (inv .tree)) m (inv .left)))
           after v e = sym (inv .calls) ∙ tried-next (q .room) (q .n) rest m (inv .tree) (coreOf (q .n) (inv .tree)) (inv .left) nx
-            ∙ ap (λ x. x && allFit (q .room) (q .n) (triedExists (inv .tree) (coreOf (q .n) (inv .tree)) (marksOf (q .n) (setBit m false rest)) (dropped (inv .tree) (coreOf (q .n) (inv .tree)) m (inv .left)))) e
+              ∙ ap (λ x. x && allFit (q .room) (q .n) (triedExists (inv .tree) (coreOf (q .n) (inv .tree)) (marksOf (q .n) (setBit m false rest)) (dropped (inv .tree) (coreOf (q .n) (inv .tree)) m (inv .left)))) e
 
           pub rest-again : (k : ℕ) → r ≡ Count k → (s′ : ℕ) → s′ ≡ setBit m false rest → RestInv q w₀ w₂ f kf kc most k s′
           rest-again k e s′ es =

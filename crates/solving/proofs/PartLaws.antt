@@ -25,6 +25,9 @@ use Rattle.dividing.proofs.FitLaws.{operand}
 use Rattle.solving.specs.Solving.{nextAt, partOf, literalsOf, PartsAt, Loading, Loads}
 
 -- ---- the literals
+pub core-literals : (m : ℕ) (y : Clause) (i : ℕ) → i ≡ 0 → y ≡ literalsOf m y i
+core-literals m y i e = rw e
+
 pub side-literals : (m : ℕ) (y : Clause) (i : ℕ) → i ≢ 0 → setCell y m (eqb i 1) ≡ literalsOf m y i
 side-literals m y zero h = absurd (h refl)
 side-literals m y (suc zero) h = refl

@@ -40,5 +40,5 @@ push-more out k y h = λ ys o.
     record {
       count = omega (arith, o .count, length-append ys (y ∷ []), l);
       words = λ i. rw (e, d) (two-more (2 * k) out (y .fixed) (y .values) (omega arith)
-        ∙ ap (λ (z : List ℕ). z ++ (y .fixed ∷ y .values ∷ [])) (o .words (omega (arith, o .count))) ∙ sym (words-append ys (y ∷ [])));
+          ∙ ap (λ (z : List ℕ). z ++ (y .fixed ∷ y .values ∷ [])) (o .words (omega (arith, o .count))) ∙ sym (words-append ys (y ∷ [])));
     }

@@ -50,7 +50,7 @@ tab-same q o k f x w w′ h i e l t = record {
 frame-next : (q : Size) (d : ℕ) → frameAt q (d + 1) ≡ nextAt q (frameAt q d)
 frame-next q d =
     let e : q .n + 2 + (d + 1) ≡ suc (q .n + 2 + d) = omega arith in
-    ap (λ i. block q * i) e ∙ mul-suc (block q) (q .n + 2 + d) ∙ (let z : block q + block q * (q .n + 2 + d) ≡ block q * (q .n + 2 + d) + 4 * (stride * q .wide) = omega arith in z)
+    ap (λ i. block q * i) e ∙ mul-suc (block q) (q .n + 2 + d) ∙ (let z : block q * (q .n + 2 + d) + block q ≡ block q * (q .n + 2 + d) + 4 * (stride * q .wide) = omega arith in z)
 
 frame-first : (q : Size) (d : ℕ) → frameAt q 0 ≤ frameAt q d
 frame-first q d = mul-le-mul-left {m = q .n + 2 + 0} {n = q .n + 2 + d} (block q) (omega arith)
@@ -63,6 +63,7 @@ Ended q d kf k y w out w′ out′ r = Same q (frameAt q d + place q) w w′ × 
 pub record Turn (q : Size) (d kf k : ℕ) (y : Clause) (p : Parts) (w₁ out₁ w out : List ℕ) (i done : ℕ) : Type 0 where
   pub long : length w ≡ length w₁
   pub same : Same q (nextAt q (frameAt q d)) w₁ w
+  pub outs : length out ≡ length out₁
   pub upto : i ≤ 3
   pub known : Remembers q (memory q w)
   pub tree : Tree
@@ -84,8 +85,14 @@ module _ (q : Size) (d kf k : ℕ) (y : Clause) (w out : List ℕ) (pre : Ready 
 
   pub when-true : kf ≡ 2 → (out′ : List ℕ) (r : ℕ) → Pushes out out′ k y r → Ended q d kf k y w out w out′ (Done r)
   unfolding called solved allFit
-  when-true h out′ r p = (refl, (pre .known, λ F t ys o.
-      rw (fuel, not-konst (q .n) kf false F (t .count) (λ e. omega arith), is-konst (q .n) kf true F (t .deep) (t .count) h) (refl, p ys o)))
+  when-true h out′ r p = (
+    refl,
+    (
+      pre .known,
+      λ F t ys o.
+          rw (fuel, not-konst (q .n) kf false F (t .count) (λ e. omega arith), is-konst (q .n) kf true F (t .deep) (t .count) h) (refl, p ys o),
+    ),
+  )
 
   module _ (n1 : kf ≢ 1) (n2 : kf ≢ 2) where
     inner : (F : Tree) (v : List ℕ) (o : ℕ) → Tab (q .n) v o kf F → Inner (q .n) F
@@ -110,14 +117,21 @@ module _ (q : Size) (d kf k : ℕ) (y : Clause) (w out : List ℕ) (pre : Ready 
     ask-recall = (pre .known, pre .held, frame-first q d, pre .fits)
 
     pub recalled : capacity out < k → (r : Bool) → Recalls q w (frameAt q d) kf r → r ≡ true → Ended q d kf k y w out w out (Done k)
-    recalled full r rc hit = (refl, (pre .known, λ F t ys o.
-        (only (q .n) w (frameAt q d) kf (pre .held .tree) (pre .held .tab) (λ G. allFit (q .room) (q .n) (called (q .n + 1 - d) (q .n) G) ≡ true)
-          (ap (λ ts. allFit (q .room) (q .n) ts) (called-fuel (q .n + 1 - d) (q .n + 1) (q .n) (pre .held .tree) (pre .held .tab .deep) (omega (arith, pre .needs)) (omega (arith, pre .needs))) ∙ rc hit (pre .held .tree) (pre .held .tab))
-          F t,
-        record {
-          count = omega (arith, o .count, length-append ys (solved (q .n + 1 - d) (q .n) F y));
-          words = λ h. absurd (let z : ⊥ = omega (arith, o .count, length-append ys (solved (q .n + 1 - d) (q .n) F y)) in z);
-        })))
+    recalled full r rc hit = (
+      refl,
+      (
+        pre .known,
+        λ F t ys o. (
+          only (q .n) w (frameAt q d) kf (pre .held .tree) (pre .held .tab) (λ G. allFit (q .room) (q .n) (called (q .n + 1 - d) (q .n) G) ≡ true)
+              (ap (λ ts. allFit (q .room) (q .n) ts) (called-fuel (q .n + 1 - d) (q .n + 1) (q .n) (pre .held .tree) (pre .held .tab .deep) (omega (arith, pre .needs)) (omega (arith, pre .needs))) ∙ rc hit (pre .held .tree) (pre .held .tab))
+              F t,
+          record {
+            count = omega (arith, o .count, length-append ys (solved (q .n + 1 - d) (q .n) F y));
+            words = λ h. absurd (let z : ⊥ = omega (arith, o .count, length-append ys (solved (q .n + 1 - d) (q .n) F y)) in z);
+          },
+        ),
+      ),
+    )
 
     pub ask-divide : DivideReady w q (frameAt q d) kf
     ask-divide = record {
@@ -130,10 +144,16 @@ module _ (q : Size) (d kf k : ℕ) (y : Clause) (w out : List ℕ) (pre : Ready 
       low₁ = same-front q (coreAt q (frameAt q d)) (coreAt q (frameAt q d)) w w₁ (omega (arith, frame-first q d)) (omega arith) k₁
 
       pub over-divide : r₁ ≡ TooLarge → Ended q d kf k y w out w₁ out Nodes
-      over-divide e = (low₁, (tt, λ F t ys o.
-          ap (λ u. allFit (q .room) (q .n) (called u (q .n) F)) fuel
-          ∙ called-parts (q .room) (q .n + 1 - (d + 1)) (q .n) F (inner F w (frameAt q d) t) (steps F w (frameAt q d) t .core .deep)
-          ∙ ap (λ v. v && allFit (q .room) (q .n) (calledTo (q .n + 1 - (d + 1)) (q .n) F 3)) (subst (λ z. Divides w w₁ q (frameAt q d) kf z) e c₁ F t)))
+      over-divide e = (
+        low₁,
+        (
+          tt,
+          λ F t ys o.
+              ap (λ u. allFit (q .room) (q .n) (called u (q .n) F)) fuel
+              ∙ called-parts (q .room) (q .n + 1 - (d + 1)) (q .n) F (inner F w (frameAt q d) t) (steps F w (frameAt q d) t .core .deep)
+              ∙ ap (λ v. v && allFit (q .room) (q .n) (calledTo (q .n + 1 - (d + 1)) (q .n) F 3)) (subst (λ z. Divides w w₁ q (frameAt q d) kf z) e c₁ F t),
+        ),
+      )
 
       there : (F : Tree) → Tab (q .n) w (frameAt q d) kf F → Tab (q .n) w₁ (frameAt q d) kf F
       there F t = tab-kept (q .n) w (frameAt q d) kf F t w₁ (coreAt q (frameAt q d)) (omega (arith, pre .fits, pre .room)) k₁ l₁
@@ -155,6 +175,7 @@ module _ (q : Size) (d kf k : ℕ) (y : Clause) (w out : List ℕ) (pre : Ready 
         turn-start = record {
           long = refl;
           same = refl;
+          outs = refl;
           upto = omega arith;
           known = subst (λ h. Remembers q h) (sym memory₁) (pre .known);
           tree = pre .held .tree;
@@ -230,15 +251,17 @@ module _ (q : Size) (d kf k : ℕ) (y : Clause) (w out : List ℕ) (pre : Ready 
               frame-first q d,
               pre .fits,
               only (q .n) w₂ (frameAt q d) kf (inv .tree) f₂ (λ G. Harmless q G)
-                (ap (λ ts. allFit (q .room) (q .n) ts) (called-fuel (q .n + 1) (q .n + 1 - d) (q .n) (inv .tree) (inv .tab .deep) (omega (arith, needs-at)) (omega (arith, needs-at))) ∙ all-fit),
+                  (ap (λ ts. allFit (q .room) (q .n) ts) (called-fuel (q .n + 1) (q .n + 1 - d) (q .n) (inv .tree) (inv .tab .deep) (omega (arith, needs-at)) (omega (arith, needs-at))) ∙ all-fit),
             )
 
             pub ended : (w₃ : List ℕ) → drop (frameAt q 0) w₃ ≡ drop (frameAt q 0) w₂ → Remembers q (memory q w₃) → Ended q d kf k y w out w₃ out₂ (Done done)
             ended w₃ e r = (
               ap (take (frameAt q d + place q - frameAt q 0)) e ∙ same₂ (inv .tree),
-              (r,
-              (λ G t ys o. for-all (λ H. Answers q (q .n + 1 - d) H y ys out₂ (Done done))
-                (all-fit, subst (λ zs. Out out₂ done (ys ++ zs)) (ap (solvedTo (q .n + 1 - (d + 1)) (q .n) (inv .tree) y) three ∙ sym listed) (inv .written ys o)) G t)),
+              (
+                r,
+                (λ G t ys o. for-all (λ H. Answers q (q .n + 1 - d) H y ys out₂ (Done done))
+                    (all-fit, subst (λ zs. Out out₂ done (ys ++ zs)) (ap (solvedTo (q .n + 1 - (d + 1)) (q .n) (inv .tree) y) three ∙ sym listed) (inv .written ys o)) G t),
+              ),
             )
 
           module _ (more : i < 3) (w₃ : List ℕ) (k₃ : take (nextAt q (frameAt q d)) w₃ ≡ take (nextAt q (frameAt q d)) w₂) (l₃ : length w₃ ≡ length w₂) (kn : ℕ) (ld : Loads w₂ w₃ q (frameAt q d) p i kn)
@@ -294,20 +317,24 @@ module _ (q : Size) (d kf k : ℕ) (y : Clause) (w out : List ℕ) (pre : Ready 
               part-nodes e =
                   let z : (2 - i) + suc i ≡ 3 = omega arith in
                   let a : allFit (q .room) (q .n) (calledTo (q .n + 1 - (d + 1)) (q .n) (inv .tree) (suc i)) ≡ false =
-                    called-next (q .room) (q .n + 1 - (d + 1)) (q .n) (inv .tree) i ∙ ap₂ (λ u v. u && v) (inv .calls) (answer (pre .said) (pre .written) Nodes e) in
-                  (same-less q (coreAt q (frameAt q d)) (nextAt q (frameAt q d)) w₁ w₄ (omega arith) same₄ ∙ low₁,
-                  (tt,
-                  (λ G t ys o. for-all (λ H. Answers q (q .n + 1 - d) H y ys out₄ Nodes)
-                    (fitted false fits-at (ap (λ j. allFit (q .room) (q .n) (calledTo (q .n + 1 - (d + 1)) (q .n) (inv .tree) j)) (sym z) ∙ over-stays (q .room) (q .n + 1 - (d + 1)) (q .n) (inv .tree) (suc i) (2 - i) a)) G t)))
+                  called-next (q .room) (q .n + 1 - (d + 1)) (q .n) (inv .tree) i ∙ ap₂ (λ u v. u && v) (inv .calls) (answer (pre .said) (pre .written) Nodes e) in (
+                    same-less q (coreAt q (frameAt q d)) (nextAt q (frameAt q d)) w₁ w₄ (omega arith) same₄ ∙ low₁,
+                    (
+                      tt,
+                      (λ G t ys o. for-all (λ H. Answers q (q .n + 1 - d) H y ys out₄ Nodes)
+                          (fitted false fits-at (ap (λ j. allFit (q .room) (q .n) (calledTo (q .n + 1 - (d + 1)) (q .n) (inv .tree) j)) (sym z) ∙ over-stays (q .room) (q .n + 1 - (d + 1)) (q .n) (inv .tree) (suc i) (2 - i) a)) G t),
+                    ),
+                  )
 
-              pub turn-again : (k₅ : ℕ) → r₄ ≡ Done k₅ → Turn q d kf k y p w₁ out w₄ out₄ (i + 1) k₅
+              pub turn-again : length out₄ ≡ length out₂ → (k₅ : ℕ) → r₄ ≡ Done k₅ → Turn q d kf k y p w₁ out w₄ out₄ (i + 1) k₅
               unfolding solvedTo
-              turn-again k₅ e =
+              turn-again lo k₅ e =
                   let s : i + 1 ≡ suc i = omega arith in
                   rw s
                   (record {
                     long = l₄ ∙ l₃ ∙ inv .long;
                     same = same₄;
+                    outs = lo ∙ inv .outs;
                     upto = omega arith;
                     known = subst (λ z. Still q (memory q w₄) z) e st₄;
                     tree = inv .tree;

@@ -53,8 +53,7 @@ fn remember(w: &mut [u32], q: Size, a: usize, k: u32)
     requires { ⌜ Assumed × Remembers q (memory q (now w)) × Held (q .n) (now w) a k × (frameAt q 0 ≤ a) × (k ≤ q .room) × Proven q (now w) a k ⌝ }
     ensures { λ _. ⌜ drop (frameAt q 0) (now (w .exit)) ≡ drop (frameAt q 0) (now (w .entry)) ⌝ }
     ensures { λ _. ⌜ Remembers q (memory q (now (w .exit))) ⌝ }
-{
-}
+{}
 
 // The literals of part i: the core has those so far, then the mark is true, then false.
 fn literals(y: BddPartialValuation, m: BddVariable, i: usize) -> BddPartialValuation
