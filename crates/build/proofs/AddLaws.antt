@@ -10,6 +10,7 @@ use lib.ListN.{length}
 use Rattle.theory.specs.Tree.{Tree, Deep}
 use Rattle.theory.specs.Table.{Node, node, Table, at, treeOf, truth, walk, constants, cut, canon, Good}
 use Rattle.theory.specs.Words.{nodeAt, nodes}
+use Rattle.theory.proofs.Step.{mark-le}
 use Rattle.theory.proofs.Walk.{Walked, sound}
 use Rattle.theory.proofs.Canon.{constants-good}
 use Rattle.theory.proofs.Words.{length-nodes, at-nodes, nodes-agree}
@@ -19,10 +20,10 @@ use Rattle.cube.specs.Cube.{setCube}
 use Rattle.cube.proofs.Cubes.{set-deep}
 use Rattle.cube.proofs.Sizes.{pool-bound, new-bound}
 use Rattle.put.specs.declared.Job.{Job}
-use Rattle.put.specs.Put.{tree, Ready, Put}
+use Rattle.put.specs.Put.{memoBase, tree, Ready, Put}
 use Rattle.build.specs.declared.Goal.{Goal}
 use Rattle.build.specs.Build.{carried, Carrying, Carried, Copied, Older, Compacting, fresh, Compacted, Adding, target, Added, Exported}
-use Rattle.build.proofs.CarryLaws.{jump, mark-le}
+use Rattle.build.proofs.CarryLaws.{jump}
 
 -- ---- the table's size by the walk's
 pub over : (n : ℕ) (t : Tree) → Deep n t → (room : ℕ) → 2 ≤ room → room < length ((walk ((constants n)) 0 t) .0) → room < length (canon n t)
@@ -61,7 +62,7 @@ module _ (w out : List ℕ) (g : Goal) (k a : ℕ) (r : Compacting w out g k a) 
   carried-is =
       let z : g .n - 0 ≡ g .n = omega arith in
       ap (λ (u : Table). carried (g .n) s u a) e
-      ∙ sym (jump (g .n) s (constants (g .n)) (constants-good (g .n)) 0 a (omega arith) (mark-le (g .n) s (r .good) a (r .stands .lies)))
+      ∙ sym (jump (g .n) s (constants (g .n)) (constants-good (g .n)) 0 a (omega arith) (mark-le (g .n) s (r .good .ordered) a (r .stands .lies)))
       ∙ ap (λ x. walk (constants (g .n)) 0 (treeOf x s 0 a)) z
 
   pub compact-full : g .room < length ((carried (g .n) s (nodes 2 out₀) a) .0) → g .room < length ((fresh (g .n) s a) .0)
@@ -74,7 +75,7 @@ module _ (w out : List ℕ) (g : Goal) (k a : ℕ) (r : Compacting w out g k a) 
     pub compact-done : (w₂ : List ℕ) → Copied w₁ w₂ out₁ (3 * m) → Compacted w w₂ g k a o m
     compact-done w₂ p = record {
       holds = record { is = fresh-is ∙ ap (λ (z : Table). (z, o)) (nodes-agree m out₁ w₂ (λ i h. sym (p .front i h))); fits = c .holds .fits };
-      young = λ x h. subst (λ z. z / 16384 ≤ g .stamp) (sym (p .back (3 * g .cap + x) (omega (arith, c .holds .fits, r .cap)))) (c .young x h);
+      young = λ x h. subst (λ z. z / memoBase ≤ g .stamp) (sym (p .back (3 * g .cap + x) (omega (arith, c .holds .fits, r .cap)))) (c .young x h);
     }
 
     fresh-sound : Walked (g .n) (constants (g .n)) (g .n) 0 (treeOf (g .n) s 0 a) (nodes m out₁, o)

@@ -20,6 +20,7 @@ use Rattle.cube.specs.Cube.{entryAt, opening, setCube, built, run}
 use Rattle.cube.proofs.Runs.{built-snoc, konst-deep}
 use Rattle.put.specs.declared.Job.{Job}
 use Rattle.making.specs.Made.{Beyond}
+use Rattle.put.specs.Put.{memoBase}
 use Rattle.build.specs.declared.Goal.{Goal}
 use Rattle.build.specs.Build.{Zeros, Older, Pool, Adding, target, Added, Exporting, Exported, Within, Given, runOf, Building, Fit, Counted, Refused}
 use Rattle.build.proofs.AddLaws.{under}
@@ -54,7 +55,7 @@ module _ (n : ℕ) (entry : ℕ → Clause) (k term room : ℕ) (out₀ w₀ : L
       means = ap (λ (s : Table). treeOf n s 0 (1 - term)) e ∙ treeOf-konst n ((constants n)) n 0 (1 - term) (omega arith) (ends-mark (1 - term) (omega arith))
           ∙ ap (konst n) (flip term (b .polar)) ∙ sym (none n term entry);
       fits = b .some;
-      older = λ x h. subst (λ (q : ℕ). q / 16384 < 1) (sym (y (3 * (2 * room) + x) (omega (arith, b .some)) ∙ z (3 * (2 * room) + x) (omega arith) (omega arith))) (omega (arith, zero-div 16384));
+      older = λ x h. subst (λ (q : ℕ). q / memoBase < 1) (sym (y (3 * (2 * room) + x) (omega (arith, b .some)) ∙ z (3 * (2 * room) + x) (omega arith) (omega arith))) (omega (arith, zero-div memoBase));
     });
     fit = empty-fits;
   }

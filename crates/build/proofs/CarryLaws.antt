@@ -5,51 +5,37 @@ use mathlib.Core.List.{List, [], _∷_, _++_}
 use mathlib.Core.Logic.{_⊎_, inl, inr, _≢_}
 use Prim.Native.Nat.{ℕ, zero, suc, _+_, _*_, _-_, _/_, _%_, _<_, _≤_}
 use native.Mathlib.Omega.{arith}
-use native.Mathlib.Nat.{add-zero, zero-add, suc-add}
-use native.Mathlib.Decide.{ℕ-discrete, decLt}
+use native.Mathlib.Decide.{decLt}
 use lib.ListN.{length, set, length-append}
 use Rattle.theory.specs.Tree.{Tree, fork}
 use Rattle.theory.specs.Table.{Node, node, Table, at, step, treeOf, find, grow, mk, walk, Good}
 use Rattle.theory.specs.Words.{nodeAt, nodes}
-use Rattle.theory.proofs.Step.{Stands, step-here, step-skip, stands-child, inner, treeOf-append}
+use Rattle.theory.proofs.Step.{Stands, step-here, stands-child, inner, mark-le, treeOf-append}
 use lib.Seq.{getD-set-same, getD-set-other}
-use Rattle.theory.proofs.Find.{Fresh, Present, grow-cases, mk-same, mk-other, node-eq}
+use Rattle.theory.proofs.Find.{Fresh, Present, grow-cases, mk-other, node-eq}
 use Rattle.theory.proofs.Walk.{Walked, sound, alone, stands-old, at-old, at-new, num-truth, mk-sound}
 use Rattle.theory.proofs.Words.{length-nodes, at-nodes}
 use Rattle.theory.proofs.Small.{treeOf-deep}
-use Rattle.theory.proofs.Again.{walk-again, walk-grows, walk-skip}
+use Rattle.theory.proofs.Again.{walk-again, walk-grows}
+use Rattle.theory.proofs.Levels.{treeOf-lifted, lifted-walk}
+use Rattle.theory.proofs.Turned.{mk-grows, walk-fork}
 use Rattle.cube.proofs.Cubes.{stays}
-use Rattle.put.specs.Put.{word, wordOf}
+use Rattle.put.specs.Put.{memoBase, word, wordOf}
 use Rattle.pool.specs.Pool.{Holds, Pushing, pushed}
 use Rattle.put.proofs.SettleLaws.{keep-nodes, keep-memo}
 use Rattle.build.specs.declared.Goal.{Goal}
 use Rattle.build.specs.Build.{carried, Source, Origin, Carrying, Carried}
 
--- ---- levels that the node's mark skips
-module _ (n : ℕ) (s o : Table) (g : Good n o) where
-  jump-by : (d k l a : ℕ) → l + (d + k) ≡ n → l + d ≤ (at s a) .mark → walk o l (treeOf (d + k) s l a) ≡ walk o (l + d) (treeOf k s (l + d) a)
-  unfolding treeOf
-  jump-by zero k l a e h = rw (zero-add k, add-zero l)
-  jump-by (suc d) k l a e h =
-      let x : suc l + d ≡ l + suc d = omega arith in
-      let ne : ((at s a) .mark ≡ l → ⊥) = λ z. omega arith in
-      rw (suc-add d k, step-skip s l false a ne, step-skip s l true a ne)
-      (walk-skip n (d + k) (treeOf (d + k) s (suc l) a) (treeOf-deep (d + k) s (suc l) a) l (omega arith) o g
-      ∙ (rw x at (jump-by d k (suc l) a (omega arith) (omega arith))))
-
-  pub jump : (l a : ℕ) → l ≤ (at s a) .mark → (at s a) .mark ≤ n → walk o l (treeOf (n - l) s l a) ≡ carried n s o a
-  jump l a h i =
-      let m : ℕ = (at s a) .mark in
-      let e : n - l ≡ ((at s a) .mark - l) + (n - (at s a) .mark) = omega arith in
-      let x : l + ((at s a) .mark - l) ≡ (at s a) .mark = omega arith in
-      ap (λ y. walk o l (treeOf y s l a)) e
-      ∙ jump-by ((at s a) .mark - l) (n - (at s a) .mark) l a (omega arith) (omega arith)
-      ∙ ap (λ y. walk o y (treeOf (n - (at s a) .mark) s y a)) x
-
-pub mark-le : (n : ℕ) (s : Table) → Good n s → (a : ℕ) → a < length s → (at s a) .mark ≤ n
-mark-le n s g zero h = omega (arith, ap (λ (z : Node). z .mark) (g .ordered .first))
-mark-le n s g (suc zero) h = omega (arith, ap (λ (z : Node). z .mark) (g .ordered .second h))
-mark-le n s g (suc (suc a)) h = omega (arith, g .ordered .marks (suc (suc a)) (omega arith) h)
+-- levels that the node's mark skips
+pub jump : (n : ℕ) (s o : Table) → Good n o → (l a : ℕ) → l ≤ (at s a) .mark → (at s a) .mark ≤ n → walk o l (treeOf (n - l) s l a) ≡ carried n s o a
+jump n s o g l a h i =
+    let m : ℕ = (at s a) .mark in
+    let e : n - l ≡ (m - l) + (n - m) = omega arith in
+    let x : l + (m - l) ≡ m = omega arith in
+    ap (λ y. walk o l (treeOf y s l a)) e
+    ∙ ap (walk o l) (treeOf-lifted (m - l) (n - m) s l a (omega arith))
+    ∙ lifted-walk n (m - l) (n - m) (treeOf (n - m) s (l + (m - l)) a) (treeOf-deep (n - m) s (l + (m - l)) a) l (omega arith) o g
+    ∙ ap (λ y. walk o y (treeOf (n - m) s y a)) x
 
 -- a constant
 pub carried-end : (n : ℕ) (s o : Table) → Good n s → (a : ℕ) → a < 2 → carried n s o a ≡ (o, a)
@@ -64,30 +50,16 @@ carried-end n s o g a h =
     end-mark (suc zero) h = ap (λ (y : Node). y .mark) (g .ordered .second (g .both))
     end-mark (suc (suc x)) h = absurd (let z : ⊥ = omega arith in z)
 
-mk-more : (s : Table) (l p q : ℕ) → length s ≤ length ((mk s l p q) .0)
-mk-more s l p q = elim (ℕ-discrete p q) [
-  | yes e ↦ rw (← e, mk-same s l p) (omega arith)
-  | no e ↦ rw (mk-other s l p q e) (go (grow-cases s (node l p q)))
-]
-  where
-    go : Fresh s (node l p q) ⊎ Present s (node l p q) → length s ≤ length (grow s (node l p q))
-    go (inl m) = rw (m .table) (omega (arith, length-append s (node l p q ∷ [])))
-    go (inr m) = rw (m .table) (omega arith)
-
-walk-fork : (s : Table) (l : ℕ) (lo hi : Tree) (s₁ : Table) (p : ℕ) → walk s (suc l) lo ≡ (s₁, p) → walk s l (fork lo hi) ≡ mk ((walk s₁ (suc l) hi) .0) l p ((walk s₁ (suc l) hi) .1)
-unfolding walk
-walk-fork s l lo hi s₁ p e = rw e
-
 -- the memo knows it, or it is a constant
 module _ (w out : List ℕ) (g : Goal) (k m a : ℕ) (r : Carrying w out g k m a) where
   -- a mark is at most 60
   pub mark-small : nodeAt w a .mark ≤ 60
-  mark-small = omega (arith, mark-le (g .n) (nodes k w) (r .pool) a (omega (arith, r .lies, length-nodes k w)), ap (λ (x : Node). x .mark) (at-nodes k w a (r .lies)), r .marks)
+  mark-small = omega (arith, mark-le (g .n) (nodes k w) (r .pool .ordered) a (omega (arith, r .lies, length-nodes k w)), ap (λ (x : Node). x .mark) (at-nodes k w a (r .lies)), r .marks)
 
   pub carry-end : a < 2 → Carried w w out out g k m a a m
   carry-end h = record { holds = record { is = carried-end (g .n) (nodes k w) (nodes m out) (r .pool) a h; fits = r .holds }; pool = refl; known = r .known; origin = r .origin; above = λ y h. refl; young = r .young }
 
-  pub carry-memo : (e : ℕ) → word w (g .cap) a / 16384 ≡ g .stamp → e ≡ word w (g .cap) a % 16384 → Carried w w out out g k m a e m
+  pub carry-memo : (e : ℕ) → word w (g .cap) a / memoBase ≡ g .stamp → e ≡ word w (g .cap) a % memoBase → Carried w w out out g k m a e m
   carry-memo e st ee = record {
     holds = record { is = r .known a (omega (arith, r .lies, r .fits)) st .1 ∙ ap (λ (x : ℕ). (nodes m out, x)) (sym ee); fits = r .holds };
     pool = refl;
@@ -98,7 +70,7 @@ module _ (w out : List ℕ) (g : Goal) (k m a : ℕ) (r : Carrying w out g k m a
   }
 
 -- an inner node
-module _ (w out : List ℕ) (g : Goal) (k m a : ℕ) (r : Carrying w out g k m a) (two : 2 ≤ a) (v x y : ℕ) (ev : v ≡ nodeAt w a .mark) (ex : x ≡ nodeAt w a .low) (ey : y ≡ nodeAt w a .high) (nk : word w (g .cap) a / 16384 ≡ g .stamp → ⊥) where
+module _ (w out : List ℕ) (g : Goal) (k m a : ℕ) (r : Carrying w out g k m a) (two : 2 ≤ a) (v x y : ℕ) (ev : v ≡ nodeAt w a .mark) (ex : x ≡ nodeAt w a .low) (ey : y ≡ nodeAt w a .high) (nk : word w (g .cap) a / memoBase ≡ g .stamp → ⊥) where
   abbrev s : Table
   s = nodes k w
 
@@ -168,10 +140,10 @@ module _ (w out : List ℕ) (g : Goal) (k m a : ℕ) (r : Carrying w out g k m a
   }
 
   lo-jump : walk o (suc v) lo-tree ≡ carried n s o x
-  lo-jump = jump n s o (r .good) (suc v) x (x-stands .fits) (mark-le n s (r .pool) x (x-stands .lies))
+  lo-jump = jump n s o (r .good) (suc v) x (x-stands .fits) (mark-le n s (r .pool .ordered) x (x-stands .lies))
 
   hi-jump : (u : Table) → Good n u → walk u (suc v) hi-tree ≡ carried n s u y
-  hi-jump u h = jump n s u h (suc v) y (y-stands .fits) (mark-le n s (r .pool) y (y-stands .lies))
+  hi-jump u h = jump n s u h (suc v) y (y-stands .fits) (mark-le n s (r .pool .ordered) y (y-stands .lies))
 
   sound-lo : Walked n o (n - suc v) (suc v) lo-tree (walk o (suc v) lo-tree)
   sound-lo = sound n (n - suc v) lo-tree (treeOf-deep (n - suc v) s (suc v) x) (suc v) whole o (r .good)
@@ -182,7 +154,7 @@ module _ (w out : List ℕ) (g : Goal) (k m a : ℕ) (r : Carrying w out g k m a
       rw (splits o, walk-fork o v lo-tree hi-tree ((walk o (suc v) lo-tree) .0) ((walk o (suc v) lo-tree) .1) refl)
       (omega (
         arith,
-        mk-more ((walk ((walk o (suc v) lo-tree) .0) (suc v) hi-tree) .0) v ((walk o (suc v) lo-tree) .1) ((walk ((walk o (suc v) lo-tree) .0) (suc v) hi-tree) .1),
+        mk-grows ((walk ((walk o (suc v) lo-tree) .0) (suc v) hi-tree) .0) v ((walk o (suc v) lo-tree) .1) ((walk ((walk o (suc v) lo-tree) .0) (suc v) hi-tree) .1),
         walk-grows n (n - suc v) hi-tree (treeOf-deep (n - suc v) s (suc v) y) (suc v) whole ((walk o (suc v) lo-tree) .0) (sound-lo .good),
       ))
 
@@ -223,7 +195,7 @@ module _ (w out : List ℕ) (g : Goal) (k m a : ℕ) (r : Carrying w out g k m a
     pub full-hi : g .room < length ((carried n (nodes k w₁) o₁ y) .0) → g .room < length ((carried n s o a) .0)
     full-hi h =
         let h′ : g .room < length ((walk o₁ (suc v) hi-tree) .0) = rw hi-same at h in
-        rw split₁ (omega (arith, mk-more ((walk o₁ (suc v) hi-tree) .0) v p ((walk o₁ (suc v) hi-tree) .1)))
+        rw split₁ (omega (arith, mk-grows ((walk o₁ (suc v) hi-tree) .0) v p ((walk o₁ (suc v) hi-tree) .1)))
 
     module _ (w₂ out₂ : List ℕ) (q m₂ : ℕ) (nw₂ : length w₂ ≡ length w₁) (no₂ : length out₂ ≡ length out₁) (f : Carried w₁ w₂ out₁ out₂ g k m₁ y q m₂) where
       abbrev o₂ : Table
@@ -289,7 +261,7 @@ module _ (w out : List ℕ) (g : Goal) (k m a : ℕ) (r : Carrying w out g k m a
           let same : c .x ≡ a = alone n s (r .pool) (suc (n - suc v)) v (c .x) a (omega (arith, v-lt))
           (record { lies = omega (arith, c .lies, length-nodes k w); fits = omega arith }) (record { lies = a-in; fits = omega (arith, mark-is) })
           (sym (b .means) ∙ i-tree i e ∙ sym a-tree) in
-          nk (ap (λ z. z / 16384) (sym still) ∙ ap (λ z. word w₂ (g .cap) z / 16384) (sym same) ∙ c .stamp)
+          nk (ap (λ z. z / memoBase) (sym still) ∙ ap (λ z. word w₂ (g .cap) z / memoBase) (sym same) ∙ c .stamp)
 
       mk-is : mk o₂ v p q ≡ pushed out₂ m₂ v p q
       mk-is = mk-other o₂ v p q apart ∙ go (grow-cases o₂ (node v p q))
@@ -318,7 +290,7 @@ module _ (w out : List ℕ) (g : Goal) (k m a : ℕ) (r : Carrying w out g k m a
         mk₃ = subst (λ z. Walked n o₂ (suc (n - suc v)) v (fork (treeOf (n - suc v) o₂ (suc v) p) (treeOf (n - suc v) o₂ (suc v) q)) z) (h .is)
             (mk-sound n o₂ (sound₂ .good) (n - suc v) v p q whole low₂ (sound₂ .stands))
 
-        pub e-small : e < 16384
+        pub e-small : e < memoBase
         e-small = omega (arith, mk₃ .stands .lies, length-nodes m₃ out₃, h .fits, r .small)
 
         again : carried n s o₃ a ≡ (o₃, e)
@@ -327,7 +299,7 @@ module _ (w out : List ℕ) (g : Goal) (k m a : ℕ) (r : Carrying w out g k m a
 
         old : (i d : ℕ) → i < k → carried n s o₂ i ≡ (o₂, d) → carried n s o₃ i ≡ (o₃, d)
         old i d lt b =
-            let il : (at s i) .mark ≤ n = mark-le n s (r .pool) i (omega (arith, length-nodes k w)) in
+            let il : (at s i) .mark ≤ n = mark-le n s (r .pool .ordered) i (omega (arith, length-nodes k w)) in
             subst (λ (z : Table). carried n s z i ≡ (z, d)) (sym (mk₃ .grown))
             (stays n o₂ (mk₃ .more) (sound₂ .good) (subst (Good n) (mk₃ .grown) (mk₃ .good)) (n - (at s i) .mark) ((at s i) .mark) d (treeOf (n - (at s i) .mark) s ((at s i) .mark) i)
             (treeOf-deep (n - (at s i) .mark) s ((at s i) .mark) i) (omega arith) b)
@@ -345,13 +317,13 @@ module _ (w out : List ℕ) (g : Goal) (k m a : ℕ) (r : Carrying w out g k m a
         came w₃ q₃ pool₃ i ti lt = elim (decLt i m₂) [
           | yes was ↦
               let c : Source w₂ out₂ g k m₂ i = f .origin i ti was in
-              let ne : c .x ≢ a = λ z. nk (ap (λ d. d / 16384) (sym still) ∙ ap (λ d. word w₂ (g .cap) d / 16384) (sym z) ∙ c .stamp) in
+              let ne : c .x ≢ a = λ z. nk (ap (λ d. d / memoBase) (sym still) ∙ ap (λ d. word w₂ (g .cap) d / memoBase) (sym z) ∙ c .stamp) in
               let b : word w₃ (g .cap) (c .x) ≡ word w₂ (g .cap) (c .x) = ap (λ (d : List ℕ). word d (g .cap) (c .x)) q₃ ∙ getD-set-other w₂ (3 * g .cap + a) (3 * g .cap + c .x) (wordOf (g .stamp) e) 0 (λ d. ne (omega arith)) in
               record {
                 x = c .x;
                 lies = c .lies;
-                stamp = ap (λ d. d / 16384) b ∙ c .stamp;
-                says = ap (λ d. d % 16384) b ∙ c .says;
+                stamp = ap (λ d. d / memoBase) b ∙ c .stamp;
+                says = ap (λ d. d % memoBase) b ∙ c .says;
                 mark = ap (λ (z : Table). (at z (c .x)) .mark) (pool₃ ∙ sym pool₂) ∙ c .mark
                     ∙ sym (ap (λ (z : Table). (at z i) .mark) o₃-is ∙ ap (λ (z : Node). z .mark) (at-old o₂ (node v p q ∷ []) i (omega (arith, length-nodes m₂ out₂))));
               }
@@ -361,8 +333,8 @@ module _ (w out : List ℕ) (g : Goal) (k m a : ℕ) (r : Carrying w out g k m a
               record {
                 x = a;
                 lies = r .lies;
-                stamp = ap (λ d. d / 16384) b ∙ (let c : wordOf (g .stamp) e / 16384 ≡ g .stamp = omega (arith, e-small) in c);
-                says = ap (λ d. d % 16384) b ∙ (let c : wordOf (g .stamp) e % 16384 ≡ i = omega (arith, e-small, new-is) in c);
+                stamp = ap (λ d. d / memoBase) b ∙ (let c : wordOf (g .stamp) e / memoBase ≡ g .stamp = omega (arith, e-small) in c);
+                says = ap (λ d. d % memoBase) b ∙ (let c : wordOf (g .stamp) e % memoBase ≡ i = omega (arith, e-small, new-is) in c);
                 mark = ap (λ (z : Table). (at z a) .mark) pool₃ ∙ mark-is
                     ∙ sym (ap (λ (z : Table). (at z i) .mark) o₃-is ∙ ap (λ (d : ℕ). (at (o₂ ++ (node v p q ∷ [])) d) .mark) (z ∙ sym (length-nodes m₂ out₂)) ∙ ap (λ (z : Node). z .mark) (at-new o₂ (node v p q)));
               }
@@ -376,21 +348,21 @@ module _ (w out : List ℕ) (g : Goal) (k m a : ℕ) (r : Carrying w out g k m a
               pool = pool₃;
               known = λ i lt st. elim (keep-memo (g .cap) (g .stamp) a (wordOf (g .stamp) e) w₂ w₃ slot-in true q₃ i) [
                 | inl b ↦
-                    let c = f .known i lt (ap (λ z. z / 16384) (sym b) ∙ st) in (
+                    let c = f .known i lt (ap (λ z. z / memoBase) (sym b) ∙ st) in (
                       c .0,
-                      ap (λ (z : Table). carried n z o₃ i) pool₃ ∙ old i _ (c .0) (ap (λ (z : Table). carried n z o₂ i) (sym pool₂) ∙ c .1) ∙ ap (λ (z : ℕ). (o₃, z % 16384)) (sym b),
+                      ap (λ (z : Table). carried n z o₃ i) pool₃ ∙ old i _ (c .0) (ap (λ (z : Table). carried n z o₂ i) (sym pool₂) ∙ c .1) ∙ ap (λ (z : ℕ). (o₃, z % memoBase)) (sym b),
                     )
                 | inr b ↦ (
                   omega (arith, b .1, r .lies),
                   ap₂ (λ (z : Table) (i : ℕ). carried n z o₃ i) pool₃ (b .1) ∙ again
-                      ∙ ap (λ (z : ℕ). (o₃, z)) ((let c : e ≡ wordOf (g .stamp) e % 16384 = omega (arith, e-small) in c) ∙ ap (λ z. z % 16384) (sym (b .2))),
+                      ∙ ap (λ (z : ℕ). (o₃, z)) ((let c : e ≡ wordOf (g .stamp) e % memoBase = omega (arith, e-small) in c) ∙ ap (λ z. z % memoBase) (sym (b .2))),
                 )
               ];
               origin = came w₃ q₃ pool₃;
               above = λ i lt. ap (λ (d : List ℕ). word d (g .cap) i) q₃ ∙ getD-set-other w₂ (3 * g .cap + a) (3 * g .cap + i) (wordOf (g .stamp) e) 0 (λ d. omega arith)
                   ∙ f .above i (omega (arith, y-lt)) ∙ u .above i (omega (arith, x-lt));
               young = λ i lt. elim (keep-memo (g .cap) (g .stamp) a (wordOf (g .stamp) e) w₂ w₃ slot-in true q₃ i) [
-                | inl b ↦ subst (λ z. z / 16384 ≤ g .stamp) (sym b) (f .young i lt)
-                | inr b ↦ subst (λ z. z / 16384 ≤ g .stamp) (sym (b .2)) (omega (arith, e-small))
+                | inl b ↦ subst (λ z. z / memoBase ≤ g .stamp) (sym b) (f .young i lt)
+                | inr b ↦ subst (λ z. z / memoBase ≤ g .stamp) (sym (b .2)) (omega (arith, e-small))
               ];
             }

@@ -16,7 +16,7 @@ use Rattle.making.specs.declared.Tabled.the-variants as tabled
 use Rattle.pool.specs.declared.Noted.{Noted}
 use Rattle.pool.specs.declared.Noted.the-variants.{Node as Got, Full}
 use Rattle.pool.specs.Pool.{Holds}
-use Rattle.put.specs.Put.{word, Young}
+use Rattle.put.specs.Put.{memoBase, stampLimit, word, Young}
 use Rattle.build.specs.declared.Goal.{Goal}
 use Rattle.build.specs.declared.Grown.{Grown}
 use Rattle.build.specs.declared.Grown.the-variants.{At, Over}
@@ -27,15 +27,15 @@ carried n s o a = walk o ((at s a) .mark) (treeOf (n - (at s a) .mark) s ((at s 
 
 -- what the memo knows of a node, the walk finds in out as it is
 abbrev pub Known : List ℕ → List ℕ → Goal → ℕ → ℕ → Type 0
-Known w out g k m = (x : ℕ) → x < g .cap → word w (g .cap) x / 16384 ≡ g .stamp
-    → (x < k) × (carried (g .n) (nodes k w) (nodes m out) x ≡ (nodes m out, word w (g .cap) x % 16384))
+Known w out g k m = (x : ℕ) → x < g .cap → word w (g .cap) x / memoBase ≡ g .stamp
+    → (x < k) × (carried (g .n) (nodes k w) (nodes m out) x ≡ (nodes m out, word w (g .cap) x % memoBase))
 
 -- node i of out was made for a node of the pool, and the memo says for which
 pub record Source (w out : List ℕ) (g : Goal) (k m i : ℕ) : Type 0 where
   pub x : ℕ
   pub lies : x < k
-  pub stamp : word w (g .cap) x / 16384 ≡ g .stamp
-  pub says : word w (g .cap) x % 16384 ≡ i
+  pub stamp : word w (g .cap) x / memoBase ≡ g .stamp
+  pub says : word w (g .cap) x % memoBase ≡ i
   pub mark : (at (nodes k w) x) .mark ≡ (at (nodes m out) i) .mark
 
 abbrev pub Origin : List ℕ → List ℕ → Goal → ℕ → ℕ → Type 0
@@ -43,9 +43,9 @@ Origin w out g k m = (i : ℕ) → 2 ≤ i → i < m → Source w out g k m i
 
 pub record Carrying (w out : List ℕ) (g : Goal) (k m a : ℕ) : Type 0 where
   pub marks : g .n ≤ 60
-  pub stamp : g .stamp < 262144
-  pub few : g .cap ≤ 16384
-  pub small : g .room ≤ 16384
+  pub stamp : g .stamp < stampLimit
+  pub few : g .cap ≤ memoBase
+  pub small : g .room ≤ memoBase
   pub long : 4 * g .cap ≤ length w
   pub wide : 3 * g .room ≤ length out
   pub fits : k ≤ g .cap
@@ -80,12 +80,12 @@ pub record Copied (w w′ t : List ℕ) (e : ℕ) : Type 0 where
 -- ---- a pool brought to one table
 -- every stamp in the memo is an earlier one
 abbrev pub Older : List ℕ → ℕ → ℕ → Type 0
-Older w cap stamp = (x : ℕ) → x < cap → word w cap x / 16384 < stamp
+Older w cap stamp = (x : ℕ) → x < cap → word w cap x / memoBase < stamp
 
 pub record Compacting (w out : List ℕ) (g : Goal) (k a : ℕ) : Type 0 where
   pub marks : g .n ≤ 60
-  pub stamp : g .stamp < 262144
-  pub few : g .cap ≤ 16384
+  pub stamp : g .stamp < stampLimit
+  pub few : g .cap ≤ memoBase
   pub cap : g .cap ≡ 2 * g .room
   pub some : 2 ≤ g .room
   pub long : 4 * g .cap ≤ length w
@@ -121,7 +121,7 @@ pub record Adding (w out : List ℕ) (j : Job) (room limit k a : ℕ) : Type 0 w
   pub marks : j .n ≤ 60
   pub fixed : j .fixed < 2 ^ j .n
   pub term : j .term < 2
-  pub stamp : j .stamp + 1 < 262144
+  pub stamp : j .stamp + 1 < stampLimit
   pub cap : j .cap ≡ 2 * room
   pub some : 2 ≤ room
   pub few : room ≤ 4096

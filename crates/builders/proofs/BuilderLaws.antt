@@ -1,5 +1,5 @@
 -- A builder's three equations, from its admission and the build.
-use mathlib.Core.Path.{_≡_, refl, sym, ap, subst, _∙_}
+use mathlib.Core.Path.{_≡_, refl, ap, _∙_}
 use mathlib.Core.Bool.{Bool, true, false, not}
 use mathlib.Core.List.{List, []}
 use Prim.Native.Nat.{ℕ, suc, _*_, _<_, _≤_}
@@ -7,11 +7,10 @@ use native.Mathlib.Omega.{arith}
 use lib.Dec.{ltb}
 use lib.ListN.{length}
 use borrow.Author.Tests.{ltb-true, lt-ltb, le-ltb}
-use Rattle.theory.specs.Table.{Table, truth, canon}
+use Rattle.theory.specs.Table.{truth, canon}
 use Rattle.theory.specs.Clause.{Clause}
 use Rattle.refusal.specs.Number.{order}
-use Rattle.refusal.specs.Buffers.{outputAfter, workAfter}
-use Rattle.refusal.specs.Verdict.{Verdict, Finding, firstOf, tried, judged, replied}
+use Rattle.refusal.specs.Verdict.{firstOf, tried, judged, replied}
 use Rattle.refusal.specs.declared.Refusal.{Refusal}
 use Rattle.refusal.proofs.Judged.{Clean}
 use Rattle.refusal.proofs.Firsts.{first-is, first-none}
@@ -24,8 +23,8 @@ use Rattle.making.specs.declared.Made.{Made}
 use Rattle.making.specs.declared.Made.the-variants as made
 use Rattle.making.specs.declared.Tabled.{Tabled}
 use Rattle.making.specs.declared.Tabled.the-variants.{Count, Over}
-use Rattle.making.specs.Made.{madeReply, makes, Leaves, Settling, Settles}
-use Rattle.making.proofs.MakesLaws.{Outcome, makes-settled}
+use Rattle.making.specs.Made.{Leaves, Settles}
+use Rattle.making.proofs.MakesLaws.{Outcome, makes-settled, clean-outcome}
 use Rattle.admission.proofs.Admitted.{refused-outcome}
 use Rattle.cube.specs.Cube.{opening, entryAt}
 use Rattle.cube.proofs.Runs.{built-means}
@@ -59,10 +58,6 @@ module _ (n : ℕ) (entry : ℕ → Clause) (k term room : ℕ) (out : List ℕ)
       let over : ltb (shortestOver b n k entry room) (suc k) ≡ true = lt-ltb (shortestOver b n k entry room) (suc k) (omega (arith, is, u .within)) in
       (over, is)
 
-pub leaves-settling : (over : Bool) (place : ℕ) (t : Table) (out : List ℕ) (tabled : Tabled) → Leaves over place t out tabled → Settling tabled out
-leaves-settling over place t out (Count c) left = left .0
-leaves-settling over place t out (Over p) left = tt
-
 -- the build, settled
 pub built-outcome : (b : Bool) (n count : ℕ) (entry : ℕ → Clause) (room : ℕ) (out₁ out out′ work₁ work work′ : List ℕ) → length out₁ ≡ length out → length work₁ ≡ length work
     → (tabled : Tabled) (r : Made) → Leaves (ltb (shortestOver b n count entry room) (suc count)) (shortestOver b n count entry room) (canon n (runMeans b n entry count)) out₁ tabled
@@ -70,16 +65,6 @@ pub built-outcome : (b : Bool) (n count : ℕ) (entry : ℕ → Clause) (room : 
 unfolding judged tried order firstOf
 built-outcome b n count entry room out₁ out out′ work₁ work work′ eo ew tabled r left kept =
     makes-settled [] (ltb (shortestOver b n count entry room) (suc count)) (shortestOver b n count entry room) (canon n (runMeans b n entry count)) (λ v. refl) out₁ out out′ work₁ work work′ eo ew tabled r left kept
-
--- findings that let every verdict pass
-clean-outcome : (fs : List Finding) → Clean (judged fs) → (over : Bool) (place : ℕ) (t : Table) (r : Made) (out out′ work work′ : List ℕ)
-    → Outcome (makes [] over place t) r out out′ work work′ → Outcome (makes fs over place t) r out out′ work work′
-unfolding makes judged tried order firstOf
-clean-outcome fs clean over place t r out out′ work work′ o = subst (λ v. Outcome v r out out′ work work′) (sym (clean _)) o
-
--- what a call leaves, as its contract says it
-pub three : (v : Verdict) (r : Made) (out out′ work work′ : List ℕ) → Outcome v r out out′ work work′ → (madeReply r ≡ replied v) × ((out′ ≡ outputAfter 0 v out) × (work′ ≡ workAfter v work))
-three v r out out′ work work′ o = (o .reply, (o .output, o .memory))
 
 -- ---- an entry, by its admission's answer
 module _ (cases : Bool) (n count : ℕ) (list : List ℕ) (room : ℕ) (out work : List ℕ) (a : Inspection)

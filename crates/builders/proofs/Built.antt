@@ -18,9 +18,7 @@ use Rattle.refusal.specs.Number.{NODES, order}
 use Rattle.refusal.specs.Verdict.{Finding, Verdict, refused, answered, firstOf, tried, judged}
 use Rattle.refusal.proofs.Judged.{Clean, judged-answer}
 use Rattle.refusal.proofs.Firsts.{first-before, first-fails}
-use Rattle.refusal.proofs.Single.{Single, single}
-use Rattle.making.proofs.MakesLaws.{made-one}
-use Rattle.making.specs.Made.{madeReply, makes, tableAnswer}
+use Rattle.making.specs.Made.{makes, tableAnswer}
 use Rattle.cube.specs.Cube.{dnf, cnf, listSays, clauseAt, caseAt, opening}
 use Rattle.builders.specs.Builders.{listedCase, listFindings, runMeans, shortestOver, builds, makesDnf, makesCnf, makesDnfValuation, makesCnfValuation}
 use Rattle.builders.proofs.ListLaws.{cases-small}
@@ -112,7 +110,7 @@ module _ (fs : List Finding) (b : Bool) (n count : ℕ) (entry : ℕ → Clause)
   abbrev fits : ℕ → Bool
   fits k = not (ltb room (length (canon n (runMeans b n entry k))))
 
-  build-is : Clean (judged fs) → builds fs b n count entry room ≡ cond (ltb shortest (suc count)) (refused NODES shortest) (tableAnswer (canon n (runMeans b n entry count)))
+  pub build-is : Clean (judged fs) → builds fs b n count entry room ≡ cond (ltb shortest (suc count)) (refused NODES shortest) (tableAnswer (canon n (runMeans b n entry count)))
   unfolding makes judged tried order firstOf
   build-is clean = clean _
 
@@ -130,7 +128,7 @@ module _ (fs : List Finding) (b : Bool) (n count : ℕ) (entry : ℕ → Clause)
 
   module _ (clean : Clean (judged fs)) where
     -- past inspection, refused for nodes: that run has no table within room, and every shorter run has one
-    refused-none : (place : ℕ) → builds fs b n count entry room ≡ refused NODES place → (place ≤ count) × NoRoom n room (runSays place) × ((k : ℕ) → k < place → NoRoom n room (runSays k) → ⊥)
+    pub refused-none : (place : ℕ) → builds fs b n count entry room ≡ refused NODES place → (place ≤ count) × NoRoom n room (runSays place) × ((k : ℕ) → k < place → NoRoom n room (runSays k) → ⊥)
     refused-none place e =
         let d : (ltb shortest (suc count) ≡ true) × (shortest ≡ place) = nodes-refused _ _ _ _ place (build-is clean) e in
         let within : shortest < suc count = ltb-true shortest (suc count) (d .0) in
@@ -146,7 +144,7 @@ module _ (fs : List Finding) (b : Bool) (n count : ℕ) (entry : ℕ → Clause)
         fit-at k h over = not-true (ltb room (length (canon n (runMeans b n entry k)))) (unfold shortestOver in first-before fits (suc count) k h) (lt-ltb _ _ over)
 
     -- past inspection, where some opening run has no table within room, the build is refused for nodes
-    none-refused : (k : ℕ) → k ≤ count → NoRoom n room (runSays k) → builds fs b n count entry room ≡ refused NODES shortest
+    pub none-refused : (k : ℕ) → k ≤ count → NoRoom n room (runSays k) → builds fs b n count entry room ≡ refused NODES shortest
     none-refused k h no-room =
         let within : shortest < suc count = before (none-over n (runSays k) room no-room) in
         build-is clean ∙ ap (λ o. cond o (refused NODES shortest) (tableAnswer (canon n (runMeans b n entry count)))) (lt-ltb shortest (suc count) within)
@@ -158,100 +156,57 @@ module _ (fs : List Finding) (b : Bool) (n count : ℕ) (entry : ℕ → Clause)
         ]
 
 -- ---- the four builders, for any input at all
+-- a builder's verdict v, where run k says what the opening run of k entries says
+pub record Built (fs : List Finding) (v : Verdict) (n count room : ℕ) (run : ℕ → ℕ → Bool) : Type 0 where
+  -- a build that answers, answers the smallest table that says of every case what the list says
+  pub built : (values : List ℕ) (outs : List (List ℕ)) → v ≡ answered values outs → Smallest n (run count) v
+  -- past inspection, it is refused for nodes if some opening run has no ordered table of at most room nodes ..
+  pub over : Clean (judged fs) → (k : ℕ) → k ≤ count → NoRoom n room (run k) → (place : ℕ) × (v ≡ refused NODES place)
+  -- .. and only then: the place is the length of the shortest such run
+  pub shortest : Clean (judged fs) → (place : ℕ) → v ≡ refused NODES place
+      → (place ≤ count) × NoRoom n room (run place) × ((k : ℕ) → k < place → NoRoom n room (run k) → ⊥)
+
+pub builds-built : (fs : List Finding) (b : Bool) (n count : ℕ) (entry : ℕ → Clause) (room : ℕ)
+    → Built fs (builds fs b n count entry room) n count room (λ k. listSays b n (opening entry k))
+builds-built fs b n count entry room = record {
+  built = built-smallest fs b n count entry room;
+  over = λ clean k h no-room. (_, none-refused fs b n count entry room clean k h no-room);
+  shortest = refused-none fs b n count entry room;
+}
+
 module _ (n count : ℕ) (list : List ℕ) (room : ℕ) (out work : List ℕ) where
-  pub mk-dnf-built : (values : List ℕ) (outs : List (List ℕ)) → makesDnf n count list room out work ≡ answered values outs
-      → Smallest n (dnf n (opening (clauseAt list) count)) (makesDnf n count list room out work)
+  pub dnf-built : Built (listFindings false n count list room out work) (makesDnf n count list room out work) n count room (λ k. dnf n (opening (clauseAt list) k))
   unfolding makesDnf
-  mk-dnf-built values outs e = built-smallest (listFindings false n count list room out work) true n count (clauseAt list) room values outs e
+  dnf-built = builds-built (listFindings false n count list room out work) true n count (clauseAt list) room
 
-  pub mk-cnf-built : (values : List ℕ) (outs : List (List ℕ)) → makesCnf n count list room out work ≡ answered values outs
-      → Smallest n (cnf n (opening (clauseAt list) count)) (makesCnf n count list room out work)
+  pub cnf-built : Built (listFindings false n count list room out work) (makesCnf n count list room out work) n count room (λ k. cnf n (opening (clauseAt list) k))
   unfolding makesCnf
-  mk-cnf-built values outs e = built-smallest (listFindings false n count list room out work) false n count (clauseAt list) room values outs e
+  cnf-built = builds-built (listFindings false n count list room out work) false n count (clauseAt list) room
 
-  pub mk-dnf-valuation-built : (values : List ℕ) (outs : List (List ℕ)) → makesDnfValuation n count list room out work ≡ answered values outs
-      → Smallest n (dnf n (opening (caseAt n list) count)) (makesDnfValuation n count list room out work)
+  pub dnf-valuation-built : Built (listFindings true n count list room out work) (makesDnfValuation n count list room out work) n count room (λ k. dnf n (opening (caseAt n list) k))
   unfolding makesDnfValuation
-  mk-dnf-valuation-built values outs e = built-smallest (listFindings true n count list room out work) true n count (caseAt n list) room values outs e
+  dnf-valuation-built = builds-built (listFindings true n count list room out work) true n count (caseAt n list) room
 
-  pub mk-cnf-valuation-built : (values : List ℕ) (outs : List (List ℕ)) → makesCnfValuation n count list room out work ≡ answered values outs
-      → Smallest n (cnf n (opening (caseAt n list) count)) (makesCnfValuation n count list room out work)
+  pub cnf-valuation-built : Built (listFindings true n count list room out work) (makesCnfValuation n count list room out work) n count room (λ k. cnf n (opening (caseAt n list) k))
   unfolding makesCnfValuation
-  mk-cnf-valuation-built values outs e = built-smallest (listFindings true n count list room out work) false n count (caseAt n list) room values outs e
-
-  -- past inspection, mk_dnf is refused for nodes exactly if some opening run has no such table of at most room nodes; its place is the shortest such run's length
-  pub mk-dnf-refused : Clean (judged (listFindings false n count list room out work)) → (place : ℕ) → makesDnf n count list room out work ≡ refused NODES place
-      → (place ≤ count) × NoRoom n room (dnf n (opening (clauseAt list) place)) × ((k : ℕ) → k < place → NoRoom n room (dnf n (opening (clauseAt list) k)) → ⊥)
-  unfolding makesDnf
-  mk-dnf-refused clean place e = refused-none (listFindings false n count list room out work) true n count (clauseAt list) room clean place e
-
-  pub mk-dnf-over : Clean (judged (listFindings false n count list room out work)) → (k : ℕ) → k ≤ count → NoRoom n room (dnf n (opening (clauseAt list) k))
-      → makesDnf n count list room out work ≡ refused NODES (shortestOver true n count (clauseAt list) room)
-  unfolding makesDnf
-  mk-dnf-over clean k h no-room = none-refused (listFindings false n count list room out work) true n count (clauseAt list) room clean k h no-room
-
-  -- past inspection, mk_cnf is refused for nodes exactly if some opening run has no such table of at most room nodes; its place is the shortest such run's length
-  pub mk-cnf-refused : Clean (judged (listFindings false n count list room out work)) → (place : ℕ) → makesCnf n count list room out work ≡ refused NODES place
-      → (place ≤ count) × NoRoom n room (cnf n (opening (clauseAt list) place)) × ((k : ℕ) → k < place → NoRoom n room (cnf n (opening (clauseAt list) k)) → ⊥)
-  unfolding makesCnf
-  mk-cnf-refused clean place e = refused-none (listFindings false n count list room out work) false n count (clauseAt list) room clean place e
-
-  pub mk-cnf-over : Clean (judged (listFindings false n count list room out work)) → (k : ℕ) → k ≤ count → NoRoom n room (cnf n (opening (clauseAt list) k))
-      → makesCnf n count list room out work ≡ refused NODES (shortestOver false n count (clauseAt list) room)
-  unfolding makesCnf
-  mk-cnf-over clean k h no-room = none-refused (listFindings false n count list room out work) false n count (clauseAt list) room clean k h no-room
-
-  -- past inspection, mk_dnf_valuation is refused for nodes exactly if some opening run has no such table of at most room nodes; its place is the shortest such run's length
-  pub mk-dnf-valuation-refused : Clean (judged (listFindings true n count list room out work)) → (place : ℕ) → makesDnfValuation n count list room out work ≡ refused NODES place
-      → (place ≤ count) × NoRoom n room (dnf n (opening (caseAt n list) place)) × ((k : ℕ) → k < place → NoRoom n room (dnf n (opening (caseAt n list) k)) → ⊥)
-  unfolding makesDnfValuation
-  mk-dnf-valuation-refused clean place e = refused-none (listFindings true n count list room out work) true n count (caseAt n list) room clean place e
-
-  pub mk-dnf-valuation-over : Clean (judged (listFindings true n count list room out work)) → (k : ℕ) → k ≤ count → NoRoom n room (dnf n (opening (caseAt n list) k))
-      → makesDnfValuation n count list room out work ≡ refused NODES (shortestOver true n count (caseAt n list) room)
-  unfolding makesDnfValuation
-  mk-dnf-valuation-over clean k h no-room = none-refused (listFindings true n count list room out work) true n count (caseAt n list) room clean k h no-room
-
-  -- past inspection, mk_cnf_valuation is refused for nodes exactly if some opening run has no such table of at most room nodes; its place is the shortest such run's length
-  pub mk-cnf-valuation-refused : Clean (judged (listFindings true n count list room out work)) → (place : ℕ) → makesCnfValuation n count list room out work ≡ refused NODES place
-      → (place ≤ count) × NoRoom n room (cnf n (opening (caseAt n list) place)) × ((k : ℕ) → k < place → NoRoom n room (cnf n (opening (caseAt n list) k)) → ⊥)
-  unfolding makesCnfValuation
-  mk-cnf-valuation-refused clean place e = refused-none (listFindings true n count list room out work) false n count (caseAt n list) room clean place e
-
-  pub mk-cnf-valuation-over : Clean (judged (listFindings true n count list room out work)) → (k : ℕ) → k ≤ count → NoRoom n room (cnf n (opening (caseAt n list) k))
-      → makesCnfValuation n count list room out work ≡ refused NODES (shortestOver false n count (caseAt n list) room)
-  unfolding makesCnfValuation
-  mk-cnf-valuation-over clean k h no-room = none-refused (listFindings true n count list room out work) false n count (caseAt n list) room clean k h no-room
+  cnf-valuation-built = builds-built (listFindings true n count list room out work) false n count (caseAt n list) room
 
   -- from a list of cases as DNF clauses: yes exactly at the listed cases
-  pub mk-dnf-valuation-cases : (values : List ℕ) (outs : List (List ℕ)) → makesDnfValuation n count list room out work ≡ answered values outs
+  pub dnf-valuation-cases : (values : List ℕ) (outs : List (List ℕ)) → makesDnfValuation n count list room out work ≡ answered values outs
       → Smallest n (listedCase list count) (makesDnfValuation n count list room out work)
   unfolding makesDnfValuation makes
-  mk-dnf-valuation-cases values outs e =
+  dnf-valuation-cases values outs e =
       let clean : Clean (judged (listFindings true n count list room out work)) = judged-answer (listFindings true n count list room out work) _ values outs e in
       smallest-same n (dnf n (opening (caseAt n list) count)) (listedCase list count) _
       (λ case h. dnf-listed n list case h count (cases-small true n count list room out work clean refl))
-      (mk-dnf-valuation-built values outs e)
+      (dnf-valuation-built .built values outs e)
 
   -- as CNF clauses: no exactly at the complements of the listed cases over the n marks
-  pub mk-cnf-valuation-cases : (values : List ℕ) (outs : List (List ℕ)) → makesCnfValuation n count list room out work ≡ answered values outs
+  pub cnf-valuation-cases : (values : List ℕ) (outs : List (List ℕ)) → makesCnfValuation n count list room out work ≡ answered values outs
       → Smallest n (λ case. not (listedCase list count (2 ^ n - 1 - case))) (makesCnfValuation n count list room out work)
   unfolding makesCnfValuation makes
-  mk-cnf-valuation-cases values outs e =
+  cnf-valuation-cases values outs e =
       let clean : Clean (judged (listFindings true n count list room out work)) = judged-answer (listFindings true n count list room out work) _ values outs e in
       smallest-same n (cnf n (opening (caseAt n list) count)) (λ case. not (listedCase list count (2 ^ n - 1 - case))) _
       (λ case h. cnf-listed n list case h count (cases-small true n count list room out work clean refl))
-      (mk-cnf-valuation-built values outs e)
-
-  -- for any input at all, one possible return value; the buffers are given by equations
-  pub mk-dnf-single : Single madeReply (makesDnf n count list room out work)
-  mk-dnf-single = single madeReply made-one (makesDnf n count list room out work)
-
-  pub mk-cnf-single : Single madeReply (makesCnf n count list room out work)
-  mk-cnf-single = single madeReply made-one (makesCnf n count list room out work)
-
-  pub mk-dnf-valuation-single : Single madeReply (makesDnfValuation n count list room out work)
-  mk-dnf-valuation-single = single madeReply made-one (makesDnfValuation n count list room out work)
-
-  pub mk-cnf-valuation-single : Single madeReply (makesCnfValuation n count list room out work)
-  mk-cnf-valuation-single = single madeReply made-one (makesCnfValuation n count list room out work)
+      (cnf-valuation-built .built values outs e)

@@ -80,7 +80,7 @@ not-is : (b : Bool) → not b ≡ true → b ≡ false
 not-is true e = sym e
 not-is false e = refl
 
-mask : (cases : Bool) (n : ℕ) (list : List ℕ) (i : ℕ) → not (badEntry cases n list i) ≡ true → (entryAt cases n list i) .fixed < 2 ^ n
+pub mask : (cases : Bool) (n : ℕ) (list : List ℕ) (i : ℕ) → not (badEntry cases n list i) ≡ true → (entryAt cases n list i) .fixed < 2 ^ n
 unfolding badEntry
 mask true n list i e = omega (arith, some-marks n)
 mask false n list i e = formed n (clauseAt list i) (not-is _ e) .small

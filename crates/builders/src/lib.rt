@@ -25,7 +25,7 @@ use refusal::VARIABLE;
 use table::BddPointer;
 use table::Inspection;
 
-fn over_list(n: u16, count: usize) -> bool
+pub fn over_list(n: u16, count: usize) -> bool
     ensures { λ r. ⌜ r ≡ overList n count ⌝ }
 {
     if n > MAX_MARKS {
@@ -34,7 +34,7 @@ fn over_list(n: u16, count: usize) -> bool
     count > MAX_CLAUSES
 }
 
-fn short_list(count: usize, list: &[u64], cases: bool) -> bool
+pub fn short_list(count: usize, list: &[u64], cases: bool) -> bool
     requires { ⌜ count ≤ maxClauses ⌝ }
     ensures { λ r. ⌜ r ≡ shortList cases count (now (list .entry)) ⌝ }
 {
@@ -104,7 +104,7 @@ fn is_bad(n: u16, list: &[u64], cases: bool, i: usize) -> bool
 }
 
 // The first such entry, or the count.
-fn first_bad(n: u16, count: usize, list: &[u64], cases: bool) -> usize
+pub fn first_bad(n: u16, count: usize, list: &[u64], cases: bool) -> usize
     requires { ⌜ (n ≤ maxMarks) × (count ≤ maxClauses) × Given cases count (now list) ⌝ }
     ensures { λ r. ⌜ r ≡ firstBadEntry cases n count (now (list .entry)) ⌝ }
 {

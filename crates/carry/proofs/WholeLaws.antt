@@ -2,13 +2,13 @@
 use mathlib.Core.Path.{_≡_, refl, sym, ap, subst, _∙_}
 use mathlib.Core.Bool.{Bool, true, false, not}
 use mathlib.Core.List.{List, [], _∷_}
-use Prim.Native.Nat.{ℕ, zero, suc, _-_, _<_}
+use Prim.Native.Nat.{ℕ, zero, suc, _-_, _≤_, _<_}
 use native.Mathlib.Omega.{arith}
 use native.Mathlib.Decide.{decLt}
 use lib.ListN.{length, getD, take, getD-replicate}
 use borrow.Author.Tests.{lt-ltb, le-ltb}
 use Rattle.theory.specs.Tree.{Deep, mapped, cofactor}
-use Rattle.theory.specs.Table.{node, Table, at, treeOf, walk, constants, cut, canon, meaning}
+use Rattle.theory.specs.Table.{node, Table, treeOf, walk, constants, cut, canon, meaning, Ordered, Good}
 use Rattle.theory.specs.Words.{nodes}
 use Rattle.theory.proofs.Again.{room-canon}
 use Rattle.theory.proofs.Canon.{constants-good}
@@ -29,6 +29,20 @@ use Rattle.carry.specs.Carry.{flip, carried, Known, Carrying, Carried, C
 use Rattle.carry.specs.Whole.{Placing, along, CanonLeft}
 use Rattle.carry.proofs.LeafLaws.{carries-node, carries-full}
 
+-- an empty memo knows nothing
+pub empty-memo : (memo memo₁ : List ℕ) (w : Way) (s o : Table) (count : ℕ) → count ≤ length memo → memo₁ ≡ padded (take 0 memo) (length memo) → Known memo₁ w s o count
+unfolding padded
+empty-memo memo memo₁ w s o count wide e i lt ne = absurd (ne (ap (λ (l : List ℕ). getD l i 0) e ∙ getD-replicate {A = ℕ} (length memo - 0) i 0 0 (omega arith)))
+
+-- a node carried into any good table is the walk of its whole function
+pub carried-whole : (w : Way) (s o : Table) → Good (w .n) o → Ordered (w .n) s → (root : ℕ) → root < length s
+    → carried w s o root ≡ walk o 0 (mapped (flip (w .exchange)) (cofactor (w .variable .0) (w .value) (treeOf (w .n) s 0 root)))
+carried-whole w s o good ordered root lies =
+    let z : w .n - 0 ≡ w .n = omega arith in
+    sym (turned-jump (w .variable .0) (w .value) (flip (w .exchange)) (w .n) s o good 0 root (omega arith) (mark-le (w .n) s ordered root lies))
+    ∙ ap (λ k. walk o 0 (turned (w .variable .0) (w .value) (flip (w .exchange)) k s 0 root)) z
+    ∙ ap (walk o 0) (turned-whole (w .variable .0) (w .value) (flip (w .exchange)) (w .n) s root)
+
 module _ (bdd out memo : List ℕ) (w : Way) (count root : ℕ) (g : Placing bdd out memo (w .n) count root (w .room)) where
   abbrev s : Table
   s = nodes count bdd
@@ -38,12 +52,6 @@ module _ (bdd out memo : List ℕ) (w : Way) (count root : ℕ) (g : Placing bdd
 
   root-lies : root < length s
   root-lies = omega (arith, length-nodes count bdd, g .table .last, g .table .some)
-
-  -- an empty memo knows nothing
-  empty-memo : (o : Table) (memo₁ : List ℕ) → memo₁ ≡ padded (take 0 memo) (length memo) → Known memo₁ w s o count
-  unfolding padded
-  empty-memo o memo₁ e i lt ne =
-      absurd (ne (ap (λ (l : List ℕ). getD l i 0) e ∙ getD-replicate {A = ℕ} (length memo - 0) i 0 0 (omega (arith, g .wide))))
 
   module _ (out₁ memo₁ : List ℕ) (same-out : length out₁ ≡ length out) (same-memo : length memo₁ ≡ length memo) (front : nodes 2 out₁ ≡ constants n) where
     pub begins : memo₁ ≡ padded (take 0 memo) (length memo) → Carrying bdd out₁ memo₁ w count 2 root
@@ -58,7 +66,7 @@ module _ (bdd out memo : List ℕ) (w : Way) (count root : ℕ) (g : Placing bdd
       };
       pushing = record { few = g .few; long = omega (arith, g .long); fits = g .some };
       good = rw front (constants-good n);
-      known = empty-memo (nodes 2 out₁) memo₁ e;
+      known = empty-memo memo memo₁ w s (nodes 2 out₁) count (g .wide) e;
     }
 
     is-meaning : treeOf n s 0 root ≡ meaning n s
@@ -71,11 +79,8 @@ module _ (bdd out memo : List ℕ) (w : Way) (count root : ℕ) (g : Placing bdd
 
     is-walk : carried w s (nodes 2 out₁) root ≡ walk (constants n) 0 (along w s)
     is-walk =
-        let z : n - 0 ≡ n = omega arith in
         ap (λ (o : Table). carried w s o root) front
-        ∙ sym (turned-jump (w .variable .0) (w .value) (flip (w .exchange)) n s (constants n) (constants-good n) 0 root (omega arith) (mark-le n s (g .table .ordered) root root-lies))
-        ∙ ap (λ k. walk (constants n) 0 (turned (w .variable .0) (w .value) (flip (w .exchange)) k s 0 root)) z
-        ∙ ap (walk (constants n) 0) (turned-whole (w .variable .0) (w .value) (flip (w .exchange)) n s root)
+        ∙ carried-whole w s (constants n) (constants-good n) (g .table .ordered) root root-lies
         ∙ ap (λ t. walk (constants n) 0 (mapped (flip (w .exchange)) (cofactor (w .variable .0) (w .value) t))) is-meaning
 
     pub left-over : (out₂ memo₂ : List ℕ) (answer : Noted) → Carries bdd out₁ out₂ memo₂ w count 2 root answer → answer ≡ Full → CanonLeft n (w .room) (along w s) out₂ (Over 0)
@@ -131,7 +136,7 @@ module _ (n : ℕ) (s : Table) where
   unfolding meaning
   is-deep = treeOf-deep n s 0 (length s - 1)
 
-  same-function : (v : Bool) → mapped (flip false) (cofactor n v (meaning n s)) ≡ meaning n s
+  pub same-function : (v : Bool) → mapped (flip false) (cofactor n v (meaning n s)) ≡ meaning n s
   same-function v = mapped-same (cofactor n v (meaning n s)) ∙ cofactor-past n n v (meaning n s) is-deep (omega arith)
 
   module _ (room : ℕ) (out : List ℕ) (tabled : Tabled) where

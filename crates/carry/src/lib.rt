@@ -61,7 +61,7 @@ fn recall(memo: &[u32], a: BddPointer) -> Found
     Found::At(BddPointer(word - 1))
 }
 
-fn keep(memo: &mut [u32], a: BddPointer, r: BddPointer)
+pub fn keep(memo: &mut [u32], a: BddPointer, r: BddPointer)
     requires { ⌜ (a .0 < length (now memo)) × (r .0 + 1 < 4294967296) ⌝ }
     ensures { λ _. ⌜ now (memo .exit) ≡ set (now (memo .entry)) (a .0) (r .0 + 1) ⌝ }
 {
@@ -91,7 +91,7 @@ fn child_along(bdd: &[u32], way: Way, variable: BddVariable, a: BddPointer, bit:
 }
 
 // A node's number in the output where that is known at once; else its mark, and its children on the way.
-fn split(bdd: &[u32], memo: &[u32], way: Way, count: u32, a: BddPointer) -> Step
+pub fn split(bdd: &[u32], memo: &[u32], way: Way, count: u32, a: BddPointer) -> Step
     requires { ⌜ Reading (now bdd) (now memo) way count (a .0) ⌝ }
     ensures { λ r. ⌜ Splits (now (bdd .entry)) (now (memo .entry)) way (a .0) r ⌝ }
 {

@@ -43,7 +43,7 @@ unfolding built
 built-snoc b n xs x = run-snoc b (konst n (not b)) xs x
 
 -- ---- literal by literal
-all-hold : (n f v c : ℕ) → allAre true n f v c ≡ allHold n (clause f v) c
+pub all-hold : (n f v c : ℕ) → allAre true n f v c ≡ allHold n (clause f v) c
 unfolding allAre allHold everyMark bit
 all-hold zero f v c = refl
 all-hold (suc n) f v c = ap₂ (λ x y. (not (odd f) || x) && y) (same (Bool·beq (odd v) (odd c))) (all-hold n (f / 2) (v / 2) (c / 2))
@@ -52,7 +52,7 @@ all-hold (suc n) f v c = ap₂ (λ x y. (not (odd f) || x) && y) (same (Bool·be
     same true = refl
     same false = refl
 
-one-holds : (n f v c : ℕ) → not (allAre false n f v c) ≡ oneHolds n (clause f v) c
+pub one-holds : (n f v c : ℕ) → not (allAre false n f v c) ≡ oneHolds n (clause f v) c
 unfolding allAre oneHolds someMark bit
 one-holds zero f v c = refl
 one-holds (suc n) f v c = go (odd f) (Bool·beq (odd v) (odd c)) (allAre false n (f / 2) (v / 2) (c / 2)) ∙ ap (λ y. odd f && Bool·beq (odd v) (odd c) || y) (one-holds n (f / 2) (v / 2) (c / 2))

@@ -1,14 +1,19 @@
 -- The operators, each over its entry's own verdict: what its result says of every case, that it is reduced, within room and smallest, and NODES exactly when no
 -- ordered table within room says it (`Operated`); and that each promise leaves one possible answer.
+use mathlib.Core.Path.{_≡_}
+use mathlib.Core.Logic.{_↔_}
 use mathlib.Core.Bool.{Bool, true, false, not, _||_, _&&_}
-use mathlib.Core.List.{List}
-use Prim.Native.Nat.{ℕ}
-use Rattle.theory.specs.Mask.{setBit}
+use mathlib.Core.List.{List, [], _∷_}
+use Prim.Native.Nat.{ℕ, _^_, _≤_, _<_}
+use Rattle.theory.specs.Mask.{bit, setBit}
+use Rattle.theory.specs.Tree.{tally}
 use Rattle.theory.specs.Table.{meaning}
 use Rattle.theory.specs.Words.{nodes}
 use Rattle.theory.proofs.Cases.{cofactor-deep, cofactor-look}
+use Rattle.theory.proofs.Support.{Depends}
 use Rattle.theory.proofs.Turned.{mapped-deep, mapped-look}
 use Rattle.refusal.specs.Counted.{countedReply}
+use Rattle.refusal.specs.Verdict.{answered}
 use Rattle.refusal.proofs.Single.{Single, single, counted-one}
 use Rattle.table.specs.Case.{tableSays}
 use Rattle.making.specs.Made.{madeReply}
@@ -20,6 +25,7 @@ use Rattle.operators.proofs.OperatesLaws.{Operated, meaning-deep, operated}
 use Rattle.operators.proofs.Operated as of
 use Rattle.unary.specs.Unary.{marksReply, negates, restricts, supports, countsCases}
 use Rattle.unary.proofs.MarkLaws.{marks-one}
+use Rattle.unary.proofs.Operated.{support-exact, support-within, cardinality-counts}
 
 -- two tables
 module _ (n lefts : ℕ) (left : List ℕ) (rights : ℕ) (right : List ℕ) (room : ℕ) (out work : List ℕ) where
@@ -82,6 +88,17 @@ module _ (n count : ℕ) (words : List ℕ) (room : ℕ) (out work : List ℕ) w
 
   not-single : Single madeReply (negates n count words room out work)
   not-single = single madeReply made-one (negates n count words room out work)
+
+-- one table, and a number for an answer
+module _ (n count : ℕ) (words work : List ℕ) where
+  -- support: bit i is set exactly if two cases that differ in mark i only get different answers, and no bit from n up is
+  support-says : (mask : ℕ) → supports n count words work ≡ answered (mask ∷ []) []
+      → ((i : ℕ) → i < n → (bit i mask ≡ true) ↔ Depends n i (meaning n (nodes count words))) × ((i : ℕ) → n ≤ i → bit i mask ≡ false)
+  support-says mask e = (support-exact n count words work mask e, support-within n count words work mask e)
+
+  -- case count: the number of cases that get yes
+  cardinality-says : (k : ℕ) → countsCases n count words work ≡ answered (k ∷ []) [] → k ≡ tally (2 ^ n) (tableSays n count words)
+  cardinality-says = cardinality-counts n count words work
 
   support-single : Single marksReply (supports n count words work)
   support-single = single marksReply marks-one (supports n count words work)

@@ -18,13 +18,12 @@ use Rattle.rule.specs.Rule.{supportMarks, moreCases, larger, mostCases, coreOf,
 use Rattle.frame.specs.declared.Size.{Size}
 use Rattle.frame.specs.declared.Made.{Made}
 use Rattle.frame.specs.declared.Made.the-variants.{Count, Over}
-use Rattle.frame.specs.Held.{Tab, Held, Lies, Turns, Copies}
+use Rattle.frame.specs.Held.{Tab, Held, Sized, Lies, Operand, Turns, Reads, Copies}
 use Rattle.frame.proofs.Views.{front-less, tab-kept}
-use Rattle.ops.specs.Operations.{Operand, Counts}
 use Rattle.dividing.specs.declared.Cored.{Cored}
 use Rattle.dividing.specs.declared.Cored.the-variants.{Best, TooLarge}
 use Rattle.dividing.specs.Dividing.{place, coreAt, tryAt, InFrame, Standing, CoreGiven, CoreSteps, Cores, SupportAt}
-use Rattle.dividing.proofs.FitLaws.{only, operand, lies-at, one-yes, one-no, all-cons, Next, next-mark}
+use Rattle.dividing.proofs.FitLaws.{only, operand, lies-at, sized-at, one-yes, one-no, all-cons, Next, next-mark}
 
 -- ---- one mark
 module _ (q : Size) (f kf m kc most : ℕ) (w : List ℕ) (fr : InFrame w q f kf) (st : Standing w q (coreAt q f) kc) where
@@ -45,10 +44,10 @@ module _ (q : Size) (f kf m kc most : ℕ) (w : List ℕ) (fr : InFrame w q f kf
       small : ke ≤ q .room
       small = made (fr .held .tree) (fr .held .tab) .1
 
-      pub ask-cases : (q .mem + 12 * q .wide ≤ length w₁) × Operand q w₁ (tryAt q f) ke (q .mem)
-      ask-cases = (omega (arith, fr .lies .mem), operand q w₁ _ _ (fr .lies) (tryAt q f) ke (q .mem) _ (made (fr .held .tree) (fr .held .tab) .0) small (omega (arith, fr .lies .below)))
+      pub ask-cases : Sized q (length w₁) × Operand q w₁ (tryAt q f) ke (q .mem)
+      ask-cases = (sized-at q _ _ (fr .lies) (length w₁) l₁, operand q w₁ _ _ (fr .lies) (tryAt q f) ke (q .mem) _ (made (fr .held .tree) (fr .held .tab) .0) small (omega (arith, fr .lies .below)))
 
-      module _ (w₂ : List ℕ) (k₂ : take (q .mem) w₂ ≡ take (q .mem) w₁) (l₂ : length w₂ ≡ length w₁) (c : ℕ) (n : Counts (q .n) w₁ (tryAt q f) ke c) where
+      module _ (w₂ : List ℕ) (k₂ : take (q .mem) w₂ ≡ take (q .mem) w₁) (l₂ : length w₂ ≡ length w₁) (c : ℕ) (n : Reads caseCount (q .n) w₁ (tryAt q f) ke c) where
         pub ask-copy : (tryAt q f + stride * ke ≤ length w₂) × (coreAt q f + stride * ke ≤ length w₂) × ((coreAt q f + stride * ke ≤ tryAt q f) ⊎ (tryAt q f + stride * ke ≤ coreAt q f))
         ask-copy = (
           omega (arith, small, fr .lies .room, fr .lies .below, fr .lies .mem),

@@ -13,9 +13,8 @@ use Rattle.valuation.specs.declared.BddVariable.{BddVariable}
 use Rattle.frame.specs.declared.Size.{Size}
 use Rattle.frame.specs.declared.Made.{Made}
 use Rattle.frame.specs.declared.Made.the-variants.{Count, Over}
-use Rattle.frame.specs.Held.{Tab, Held, Lies}
+use Rattle.frame.specs.Held.{Tab, Held, Sized, Lies, Operand, Reads}
 use Rattle.frame.proofs.Views.{front-less, tab-kept}
-use Rattle.ops.specs.Operations.{Supports}
 use Rattle.dividing.specs.declared.Cored.{Cored}
 use Rattle.dividing.specs.declared.Cored.the-variants as cored
 use Rattle.dividing.specs.declared.Marked.{Marked}
@@ -23,7 +22,7 @@ use Rattle.dividing.specs.declared.Marked.the-variants as marked
 use Rattle.dividing.specs.declared.Parts.{Parts}
 use Rattle.dividing.specs.declared.Divided.the-variants as divided
 use Rattle.dividing.specs.Dividing.{place, coreAt, restAt, tryAt, InFrame, Inner, GivesAll, CoreGiven, Cores, Coring, RestReady, Rests, Picks, MarkReady, MarkSteps, Divides, DivideReady}
-use Rattle.dividing.proofs.FitLaws.{only, lies-at, all-append}
+use Rattle.dividing.proofs.FitLaws.{only, operand, lies-at, sized-at, all-append}
 use Rattle.dividing.proofs.MarkLaws.{pick-chosen}
 
 three : (room n : ℕ) (F : Tree) → allFit room n (stepCalls n F)
@@ -31,7 +30,13 @@ three : (room n : ℕ) (F : Tree) → allFit room n (stepCalls n F)
 unfolding stepCalls
 three room n F = all-append room n (forAlls F (supportMarks n F)) _ ∙ ap (λ v. allFit room n (forAlls F (supportMarks n F)) && v) (all-append room n (restCalls n F) _)
 
-module _ (q : Size) (f kf : ℕ) (w : List ℕ) (pre : DivideReady w q f kf) (s : ℕ) (sup : Supports (q .n) w f kf s)
+pub ask-support : (q : Size) (f kf : ℕ) (w : List ℕ) → DivideReady w q f kf → Sized q (length w) × Operand q w f kf (q .mem)
+ask-support q f kf w pre = (
+  sized-at q _ _ (pre .frame .lies) (length w) refl,
+  operand q w _ _ (pre .frame .lies) f kf (q .mem) _ (pre .frame .held .tab) (pre .frame .fits) (omega (arith, pre .frame .lies .below)),
+)
+
+module _ (q : Size) (f kf : ℕ) (w : List ℕ) (pre : DivideReady w q f kf) (s : ℕ) (sup : Reads (supportOf (q .n)) (q .n) w f kf s)
     (w₁ : List ℕ) (k₁ : take (coreAt q f) w₁ ≡ take (coreAt q f) w) (l₁ : length w₁ ≡ length w) (r₁ : Cored) (c₁ : Cores w w₁ q f kf r₁) where
   pub over-core : r₁ ≡ cored.TooLarge → (take (coreAt q f) w₁ ≡ take (coreAt q f) w) × Divides w w₁ q f kf divided.TooLarge
   over-core e = (

@@ -9,7 +9,7 @@ use lib.ListN.{length, take}
 use lib.Count.{trailingZeros}
 use borrow.Author.Tests.{le-leb, lt-leb}
 use Rattle.theory.specs.Mask.{setBit}
-use Rattle.theory.specs.Tree.{Tree}
+use Rattle.theory.specs.Tree.{Tree, leaf, fork, Deep, pointwise, konst, sameTree}
 use Rattle.theory.specs.Table.{canon}
 use Rattle.theory.specs.Words.{stride}
 use Rattle.theory.specs.Clause.{marksOf}
@@ -18,10 +18,10 @@ use Rattle.theory.proofs.Marks.{trailing-lt, trailing-first}
 use Rattle.theory.proofs.Words.{words-injective}
 use Rattle.theory.proofs.Canon.{canon-injective}
 use Rattle.refusal.specs.Limits.{maxMarks}
-use Rattle.rule.specs.Rule.{fits, allFit}
+use Rattle.rule.specs.Rule.{inside, fits, allFit}
 use Rattle.frame.specs.declared.Size.{Size}
-use Rattle.frame.specs.Held.{Tab, Held, Lies}
-use Rattle.ops.specs.Operations.{Operand}
+use Rattle.frame.specs.Held.{Tab, Held, Sized, Lies, Operand}
+use Rattle.frame_implies.specs.Framed.{saysNo, without}
 
 -- a table says one function only
 pub only : (n : ℕ) (w : List ℕ) (o k : ℕ) (f₀ : Tree) → Tab n w o k f₀ → (P : Tree → Type 0) → P f₀ → (f : Tree) → Tab n w o k f → P f
@@ -35,6 +35,22 @@ operand q w len e lies a k d f t h below = record { held = record { tree = f; ta
 -- room for a table at another offset, in words of the same length
 pub lies-at : (q : Size) (len e : ℕ) → Lies q len e → (len′ d : ℕ) → len′ ≡ len → d ≤ e → Lies q len′ d
 lies-at q len e l len′ d h k = record { below = omega (arith, l .below); mem = omega (arith, l .mem); room = l .room; some = l .some; few = l .few; marks = l .marks }
+
+pub sized-at : (q : Size) (len e : ℕ) → Lies q len e → (len′ : ℕ) → len′ ≡ len → Sized q len′
+sized-at q len e l len′ h = record { mem = omega (arith, l .mem); few = l .few; marks = l .marks }
+
+-- ---- the rule's inclusion is the test's
+pub inside-is : (n : ℕ) (f g : Tree) → Deep n f → Deep n g → saysNo n (without f g) ≡ inside f g
+unfolding saysNo inside pointwise konst sameTree
+inside-is zero (leaf true) (leaf true) d d′ = refl
+inside-is zero (leaf true) (leaf false) d d′ = refl
+inside-is zero (leaf false) (leaf true) d d′ = refl
+inside-is zero (leaf false) (leaf false) d d′ = refl
+inside-is zero (leaf a) (fork lo hi) d d′ = absurd d′
+inside-is zero (fork lo hi) g d d′ = absurd d
+inside-is (suc n) (leaf a) g d d′ = absurd d
+inside-is (suc n) (fork lo hi) (leaf b) d d′ = absurd d′
+inside-is (suc n) (fork lo hi) (fork lo′ hi′) d d′ = ap₂ (λ u v. u && v) (inside-is n lo lo′ (d .0) (d′ .0)) (inside-is n hi hi′ (d .1) (d′ .1))
 
 -- ---- within room
 pub fits-yes : (room n k : ℕ) (f : Tree) → k ≡ length (canon n f) → k ≤ room → fits room n f ≡ true

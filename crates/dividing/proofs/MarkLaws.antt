@@ -20,9 +20,8 @@ use Rattle.rule.specs.Rule.{nodeTotal, fewerNodes, smaller, fewestNodes, chosen
 use Rattle.frame.specs.declared.Size.{Size}
 use Rattle.frame.specs.declared.Made.{Made}
 use Rattle.frame.specs.declared.Made.the-variants.{Count, Over}
-use Rattle.frame.specs.Held.{Tab, Held, Lies, Turns}
+use Rattle.frame.specs.Held.{Tab, Held, Lies, Operand, Turns}
 use Rattle.frame.proofs.Views.{front-less, tab-kept}
-use Rattle.ops.specs.Operations.{Operand}
 use Rattle.dividing.specs.declared.Marked.{Marked}
 use Rattle.dividing.specs.declared.Marked.the-variants.{Least, TooLarge}
 use Rattle.dividing.specs.Dividing.{place, restAt, tryAt, Standing, pickFrom, Picks, MarkReady, MarkSteps}

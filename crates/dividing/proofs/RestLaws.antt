@@ -20,11 +20,11 @@ use Rattle.rule.proofs.Tests.{dropped-inside}
 use Rattle.frame.specs.declared.Size.{Size}
 use Rattle.frame.specs.declared.Made.{Made}
 use Rattle.frame.specs.declared.Made.the-variants.{Count, Over}
-use Rattle.frame.specs.Held.{Tab, Held, Lies, Gives, Turns, Joins, Copies}
+use Rattle.frame.specs.Held.{Tab, Held, Sized, Lies, Operand, Gives, Turns, Joins, Tests, Reads, Copies}
 use Rattle.frame.proofs.Views.{front-less, tab-kept}
-use Rattle.ops.specs.Operations.{Operand, Tests, Supports}
+use Rattle.frame_implies.specs.Framed.{saysNo, without}
 use Rattle.dividing.specs.Dividing.{place, coreAt, restAt, tryAt, InFrame, Standing, Inner, GivesAll, RestSteps, Coring, RestReady, Rests}
-use Rattle.dividing.proofs.FitLaws.{only, operand, lies-at, one-yes, one-no, all-cons, Next}
+use Rattle.dividing.proofs.FitLaws.{only, operand, lies-at, sized-at, inside-is, one-yes, one-no, all-cons, Next}
 
 -- ---- one mark
 module _ (q : Size) (f kf m kg : ℕ) (w : List ℕ) (fr : InFrame w q f kf) (st : Standing w q (restAt q f) kg) where
@@ -48,14 +48,14 @@ module _ (q : Size) (f kf m kg : ℕ) (w : List ℕ) (fr : InFrame w q f kf) (st
       there : (F : Tree) → Tab (q .n) w f kf F → Tab (q .n) w₁ f kf F
       there F tf = tab-kept (q .n) w f kf F tf w₁ (tryAt q f) (omega (arith, fr .fits, fr .lies .room)) k₁ l₁
 
-      pub ask-implies : (q .mem + 12 * q .wide ≤ length w₁) × Operand q w₁ (tryAt q f) ke (q .mem) × Operand q w₁ f kf (q .mem)
+      pub ask-implies : Sized q (length w₁) × Operand q w₁ (tryAt q f) ke (q .mem) × Operand q w₁ f kf (q .mem)
       ask-implies = (
-        omega (arith, fr .lies .mem),
+        sized-at q _ _ (fr .lies) (length w₁) l₁,
         operand q w₁ _ _ (fr .lies) (tryAt q f) ke (q .mem) _ (made (st .held .tree) (st .held .tab) .0) small (omega (arith, fr .lies .below)),
         operand q w₁ _ _ (fr .lies) f kf (q .mem) _ (there (fr .held .tree) (fr .held .tab)) (fr .fits) (omega (arith, fr .lies .below)),
       )
 
-      module _ (w₂ : List ℕ) (k₂ : take (q .mem) w₂ ≡ take (q .mem) w₁) (l₂ : length w₂ ≡ length w₁) (v : Bool) (n : Tests inside (q .n) w₁ (tryAt q f) ke f kf v) where
+      module _ (w₂ : List ℕ) (k₂ : take (q .mem) w₂ ≡ take (q .mem) w₁) (l₂ : length w₂ ≡ length w₁) (v : Bool) (n : Tests (λ f g. saysNo (q .n) (without f g)) (q .n) w₁ (tryAt q f) ke f kf v) where
         pub ask-copy : (tryAt q f + stride * ke ≤ length w₂) × (restAt q f + stride * ke ≤ length w₂) × ((restAt q f + stride * ke ≤ tryAt q f) ⊎ (tryAt q f + stride * ke ≤ restAt q f))
         ask-copy = (
           omega (arith, small, fr .lies .room, fr .lies .below, fr .lies .mem),
@@ -72,7 +72,7 @@ module _ (q : Size) (f kf m kg : ℕ) (w : List ℕ) (fr : InFrame w q f kf) (st
           k₃ ∙ front-less (restAt q f) (tryAt q f) w w₂ (omega arith) below,
           (λ F R tf tg.
               let a : Tab (q .n) w₁ (tryAt q f) ke (existsMark m R) × (ke ≤ q .room) = made R tg in
-              let c : inside (existsMark m R) F ≡ true = sym (n (existsMark m R) F (a .0) (there F tf)) ∙ h in
+              let c : inside (existsMark m R) F ≡ true = sym (n (existsMark m R) F (a .0) (there F tf) ∙ inside-is (q .n) (existsMark m R) F (a .0 .deep) (tf .deep)) ∙ h in
               rw c (
                 p (existsMark m R) (tab-kept (q .n) w₁ (tryAt q f) ke (existsMark m R) (a .0) w₂ (q .mem) (omega (arith, a .1, fr .lies .below, fr .lies .room)) k₂ l₂),
                 a .1,
@@ -85,7 +85,7 @@ module _ (q : Size) (f kf m kg : ℕ) (w : List ℕ) (fr : InFrame w q f kf) (st
           front-less (restAt q f) (tryAt q f) w w₂ (omega arith) below,
           (λ F R tf tg.
               let a : Tab (q .n) w₁ (tryAt q f) ke (existsMark m R) × (ke ≤ q .room) = made R tg in
-              let c : inside (existsMark m R) F ≡ false = sym (n (existsMark m R) F (a .0) (there F tf)) ∙ h in
+              let c : inside (existsMark m R) F ≡ false = sym (n (existsMark m R) F (a .0) (there F tf) ∙ inside-is (q .n) (existsMark m R) F (a .0 .deep) (tf .deep)) ∙ h in
               rw c (
                 tab-kept (q .n) w (restAt q f) kg R tg w₂ (tryAt q f) (omega (arith, st .fits, fr .lies .room)) below (l₂ ∙ l₁),
                 st .fits,
@@ -167,10 +167,13 @@ module _ (q : Size) (f kf kc most : ℕ) (w : List ℕ) (pre : RestReady w q f k
       cases = c .cases;
     }
 
-    pub ask-support : Held (q .n) w₀ (coreAt q f) kc
-    ask-support = record { tree = coreOf (q .n) (pre .frame .held .tree); tab = beside (pre .frame .held .tree) (pre .coring) .core }
+    pub ask-support : Sized q (length w₀) × Operand q w₀ (coreAt q f) kc (q .mem)
+    ask-support = (
+      sized-at q _ _ (pre .frame .lies) (length w₀) l₀,
+      operand q w₀ _ _ (pre .frame .lies) (coreAt q f) kc (q .mem) _ (beside (pre .frame .held .tree) (pre .coring) .core) (pre .small) (omega (arith, pre .frame .lies .below)),
+    )
 
-    module _ (k0 : ℕ) (e₀ : r₀ ≡ Count k0) (s : ℕ) (sup : Supports (q .n) w₀ (coreAt q f) kc s) where
+    module _ (k0 : ℕ) (e₀ : r₀ ≡ Count k0) (s : ℕ) (sup : Reads (supportOf (q .n)) (q .n) w₀ (coreAt q f) kc s) where
       pub rest-start : RestInv q w₀ w₀ f kf kc most k0 s
       rest-start =
           let e : s ≡ supportOf (q .n) (coreOf (q .n) (pre .frame .held .tree)) = sup _ (beside (pre .frame .held .tree) (pre .coring) .core) in

@@ -6,7 +6,6 @@ ghost use Prim.Native.Nat.{_+_, _*_, _<_, _≤_, _^_};
 ghost use lib.ListN.{length, take};
 ghost use Rattle.theory.specs.Clause.{marksOf};
 ghost use Rattle.frame.specs.Held.{Held};
-ghost use Rattle.ops.specs.Operations.{Assumed};
 ghost use Rattle.dividing.specs.Dividing.{coreAt, restAt, tryAt, InFrame, Standing, CoreSteps, Cores, SupportAt, RestSteps, RestReady, Rests, MarkReady, MarkSteps, DivideReady, Divides};
 use frame::Made;
 use frame::Size;
@@ -39,16 +38,16 @@ pub enum Divided {
 
 // Step 1 for one mark.
 fn core_step(w: &mut [u32], q: Size, f: usize, kf: u32, m: BddVariable, kc: u32, most: u64) -> Cored
-    requires { ⌜ Assumed × InFrame (now w) q f kf × Standing (now w) q (coreAt q f) kc × (m .0 < q .n) ⌝ }
+    requires { ⌜ InFrame (now w) q f kf × Standing (now w) q (coreAt q f) kc × (m .0 < q .n) ⌝ }
     ensures { λ _. ⌜ take (coreAt q f) (now (w .exit)) ≡ take (coreAt q f) (now (w .entry)) ⌝ }
     ensures { λ r. ⌜ CoreSteps (now (w .entry)) (now (w .exit)) q f kf (m .0) kc most r ⌝ }
 {
     let place = NODE_WORDS * q.wide;
     let tried = f + 3 * place;
-    let Made::Count(ke) = ops::all_in(w, q, f, kf, m.0, tried) else {
+    let Made::Count(ke) = frame_join::all_in(w, q, f, kf, m.0, tried) else {
         return Cored::TooLarge;
     };
-    let cases = ops::cases_in(w, q, tried, ke);
+    let cases = frame_counts::cases_in(w, q, tried, ke);
     if cases > most {
         frame::copy_in(w, q, tried, ke, f + place);
         return Cored::Best(ke, cases);
@@ -58,7 +57,7 @@ fn core_step(w: &mut [u32], q: Size, f: usize, kf: u32, m: BddVariable, kc: u32,
 
 // Step 1: the core; false, of one node and no cases, if there is none.
 fn core_of(w: &mut [u32], q: Size, f: usize, kf: u32, s: u64) -> Cored
-    requires { ⌜ Assumed × InFrame (now w) q f kf × SupportAt (now w) q f kf s ⌝ }
+    requires { ⌜ InFrame (now w) q f kf × SupportAt (now w) q f kf s ⌝ }
     ensures { λ _. ⌜ take (coreAt q f) (now (w .exit)) ≡ take (coreAt q f) (now (w .entry)) ⌝ }
     ensures { λ r. ⌜ Cores (now (w .entry)) (now (w .exit)) q f kf r ⌝ }
 {
@@ -80,17 +79,17 @@ fn core_of(w: &mut [u32], q: Size, f: usize, kf: u32, s: u64) -> Cored
 
 // Step 2 for one mark: it drops out if what is then left says yes nowhere but the function does.
 fn rest_step(w: &mut [u32], q: Size, f: usize, kf: u32, m: BddVariable, kg: u32) -> Made
-    requires { ⌜ Assumed × InFrame (now w) q f kf × Standing (now w) q (restAt q f) kg × (m .0 < q .n) ⌝ }
+    requires { ⌜ InFrame (now w) q f kf × Standing (now w) q (restAt q f) kg × (m .0 < q .n) ⌝ }
     ensures { λ _. ⌜ take (restAt q f) (now (w .exit)) ≡ take (restAt q f) (now (w .entry)) ⌝ }
     ensures { λ r. ⌜ RestSteps (now (w .entry)) (now (w .exit)) q f kf (m .0) kg r ⌝ }
 {
     let place = NODE_WORDS * q.wide;
     let left = f + 2 * place;
     let tried = f + 3 * place;
-    let Made::Count(ke) = ops::some_in(w, q, left, kg, m.0, tried) else {
+    let Made::Count(ke) = frame_join::some_in(w, q, left, kg, m.0, tried) else {
         return Made::Over;
     };
-    if ops::implies_in(w, q, tried, ke, f, kf) {
+    if frame_implies::implies_in(w, q, tried, ke, f, kf) {
         frame::copy_in(w, q, tried, ke, left);
         return Made::Count(ke);
     }
@@ -99,7 +98,7 @@ fn rest_step(w: &mut [u32], q: Size, f: usize, kf: u32, m: BddVariable, kg: u32)
 
 // Step 2: what is left beside the core; the function itself if there is no core.
 fn rest_of(w: &mut [u32], q: Size, f: usize, kf: u32, kc: u32, most: u64) -> Made
-    requires { ⌜ Assumed × RestReady (now w) q f kf kc most ⌝ }
+    requires { ⌜ RestReady (now w) q f kf kc most ⌝ }
     ensures { λ _. ⌜ take (restAt q f) (now (w .exit)) ≡ take (restAt q f) (now (w .entry)) ⌝ }
     ensures { λ r. ⌜ Rests (now (w .entry)) (now (w .exit)) q f kf kc most r ⌝ }
 {
@@ -110,11 +109,11 @@ fn rest_of(w: &mut [u32], q: Size, f: usize, kf: u32, kc: u32, most: u64) -> Mad
         frame::copy_in(w, q, f, kf, left);
         return Made::Count(kf);
     }
-    let Made::Count(k0) = ops::and_not_in(w, q, f, kf, core, kc, left) else {
+    let Made::Count(k0) = frame_join::and_not_in(w, q, f, kf, core, kc, left) else {
         return Made::Over;
     };
     let mut kg = k0;
-    let mut rest = ops::support_in(&*w, q, core, kc);
+    let mut rest = frame_counts::support_in(&*w, q, core, kc);
     while rest != 0 {
         let m = BddVariable(u64::trailing_zeros(rest) as u16);
         let Made::Count(k) = rest_step(w, q, f, kf, m, kg) else {
@@ -136,17 +135,17 @@ fn mark_step(
     best: BddVariable,
     least: u32,
 ) -> Marked
-    requires { ⌜ Assumed × MarkReady (now w) q f kg × (m .0 < q .n) ⌝ }
+    requires { ⌜ MarkReady (now w) q f kg × (m .0 < q .n) ⌝ }
     ensures { λ _. ⌜ take (tryAt q f) (now (w .exit)) ≡ take (tryAt q f) (now (w .entry)) ⌝ }
     ensures { λ r. ⌜ MarkSteps (now (w .entry)) q f kg (m .0 ∷ []) (best .0) least r ⌝ }
 {
     let place = NODE_WORDS * q.wide;
     let left = f + 2 * place;
     let tried = f + 3 * place;
-    let Made::Count(k1) = ops::fix_in(w, q, left, kg, m.0, true, tried) else {
+    let Made::Count(k1) = frame_carry::fix_in(w, q, left, kg, m.0, true, tried) else {
         return Marked::TooLarge;
     };
-    let Made::Count(k0) = ops::fix_in(w, q, left, kg, m.0, false, tried) else {
+    let Made::Count(k0) = frame_carry::fix_in(w, q, left, kg, m.0, false, tried) else {
         return Marked::TooLarge;
     };
     if k1 + k0 < least {
@@ -157,7 +156,7 @@ fn mark_step(
 
 // Step 3: the mark of the smallest node total; a total over 2·room is none yet.
 fn mark_of(w: &mut [u32], q: Size, f: usize, kg: u32, s: u64) -> Marked
-    requires { ⌜ Assumed × MarkReady (now w) q f kg × (s < 2 ^ q .n) ⌝ }
+    requires { ⌜ MarkReady (now w) q f kg × (s < 2 ^ q .n) ⌝ }
     ensures { λ _. ⌜ take (tryAt q f) (now (w .exit)) ≡ take (tryAt q f) (now (w .entry)) ⌝ }
     ensures { λ r. ⌜ MarkSteps (now (w .entry)) q f kg (marksOf (q .n) s) 0 (2 * q .room + 1) r ⌝ }
 {
@@ -178,11 +177,11 @@ fn mark_of(w: &mut [u32], q: Size, f: usize, kg: u32, s: u64) -> Marked
 
 // The three steps of the rule at a function that is no constant.
 pub fn divide(w: &mut [u32], q: Size, f: usize, kf: u32) -> Divided
-    requires { ⌜ Assumed × DivideReady (now w) q f kf ⌝ }
+    requires { ⌜ DivideReady (now w) q f kf ⌝ }
     ensures { λ _. ⌜ take (coreAt q f) (now (w .exit)) ≡ take (coreAt q f) (now (w .entry)) ⌝ }
     ensures { λ r. ⌜ Divides (now (w .entry)) (now (w .exit)) q f kf r ⌝ }
 {
-    let s = ops::support_in(&*w, q, f, kf);
+    let s = frame_counts::support_in(&*w, q, f, kf);
     let Cored::Best(core, most) = core_of(w, q, f, kf, s) else {
         return Divided::TooLarge;
     };

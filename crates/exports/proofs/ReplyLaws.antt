@@ -11,7 +11,7 @@ use Rattle.refusal.specs.Buffers.{padded, outputAfter, workAfter}
 use Rattle.refusal.specs.Verdict.{Reply, Verdict, replied}
 use Rattle.refusal.proofs.Zeroing.{length-padded}
 use Rattle.exports.specs.declared.Written.{Written}
-use Rattle.exports.specs.Exports.{replyLength, replyWords, accepted, bufferWith, replyAfter, writtenWords, lentAfter, ExportedWork, Exported}
+use Rattle.exports.specs.Exports.{replyLength, replyWords, accepted, bufferWith, replyAfter, writtenWords, lentAfter, ExportedWork, Exported, ExportedPair}
 
 -- five words stored at the front
 pub five-stored : (l : List ℕ) (w : Written) → replyLength ≤ length l
@@ -102,3 +102,22 @@ module _ (v : Verdict) (work reply : List ℕ) where
         → Exported v r out out′ work work′ reply reply′
     unfolding lentAfter
     exported-all out′ work′ reply′ r h o rest = record { rest = rest; output = rw (le-ltb (length reply) replyLength h) o }
+
+-- two outputs
+module _ (v : Verdict) (first second reply : List ℕ) where
+  pub pair-none : length reply < replyLength → ExportedPair v 0 first first second second reply reply
+  unfolding lentAfter
+  pair-none h = record {
+    returned = rw (lt-ltb (length reply) replyLength h);
+    replies = left-alone reply (replyWords (replied v)) h;
+    output = rw (lt-ltb (length reply) replyLength h);
+    other = rw (lt-ltb (length reply) replyLength h);
+  }
+
+  pub pair-all : (first′ second′ reply′ : List ℕ) (r : ℕ) (w : Written) (answer : Reply) → replyLength ≤ length reply
+      → (r ≡ accepted reply) × (reply′ ≡ bufferWith (writtenWords w) reply) → writtenWords w ≡ padded (replyWords answer) 5 → answer ≡ replied v
+      → first′ ≡ outputAfter 0 v first → second′ ≡ outputAfter 1 v second → ExportedPair v r first first′ second second′ reply reply′
+  unfolding lentAfter
+  pair-all first′ second′ reply′ r w answer h wrote words is o p =
+      let e : (r ≡ accepted reply) × (reply′ ≡ replyAfter v reply) = exported reply reply′ r w answer v wrote words is in
+      record { returned = e .0; replies = e .1; output = rw (le-ltb (length reply) replyLength h) o; other = rw (le-ltb (length reply) replyLength h) p }

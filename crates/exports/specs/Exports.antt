@@ -46,3 +46,10 @@ pub record ExportedWork (v : Verdict) (r : ℕ) (work work′ reply reply′ : L
 pub record Exported (v : Verdict) (r : ℕ) (out out′ work work′ reply reply′ : List ℕ) : Type 0 where
   pub rest : ExportedWork v r work work′ reply reply′
   pub output : out′ ≡ lentAfter reply (outputAfter 0 v out) out
+
+-- what an export of an entry with two outputs leaves
+pub record ExportedPair (v : Verdict) (r : ℕ) (first first′ second second′ reply reply′ : List ℕ) : Type 0 where
+  pub returned : r ≡ accepted reply
+  pub replies : reply′ ≡ replyAfter v reply
+  pub output : first′ ≡ lentAfter reply (outputAfter 0 v first) first
+  pub other : second′ ≡ lentAfter reply (outputAfter 1 v second) second

@@ -1,9 +1,12 @@
 // The public entries for C and Rust: numbers and slices in, the reply into a lent buffer.
 // Each call returns 1; where the reply's buffer has under 64 words it returns 0 and touches nothing.
+use cover::Covered;
+use listing::Listed;
 use making::Made;
 use refusal::Counted;
 use refusal::Refusal;
 use refusal::Truth;
+use sheet::SheetRead;
 use table::Inspection;
 use unary::Marks;
 use valuation::BddPartialValuation;
@@ -31,8 +34,13 @@ ghost use Rattle.valuation.specs.Replies.{lookupReply, updatedReply, lastFixedR
 ghost use Rattle.valuation.specs.Valuation.{saysClause, asksEmpty, countsFixed, findsLast, gathersValues, listsValues, getsValue, asksValue, setsValue, unsetsValue, asksExtends, asksEqual};
 ghost use Rattle.making.specs.Made.{madeReply};
 ghost use Rattle.operators.specs.Operators.{makesAnd, makesOr, makesAndNot, makesForAll, makesExists};
+ghost use Rattle.builders.specs.Builders.{makesDnf, makesCnf, makesDnfValuation, makesCnfValuation};
+ghost use Rattle.cover.specs.Cover.{coveredReply, checksCover};
+ghost use Rattle.listing.specs.Listed.{listedReply};
+ghost use Rattle.lists.specs.Lists.{listsDnf, listsCnf};
+ghost use Rattle.sheet.specs.Sheet.{sheetReply, readsSheet};
 ghost use Rattle.unary.specs.Unary.{marksReply, negates, restricts, supports, countsCases};
-ghost use Rattle.exports.specs.Exports.{Exported, ExportedWork, replyLength, replyWords, accepted, bufferWith, replyAfter, writtenWords};
+ghost use Rattle.exports.specs.Exports.{Exported, ExportedWork, ExportedPair, replyLength, replyWords, accepted, bufferWith, replyAfter, writtenWords};
 
 // The least length of a reply's buffer.
 const REPLY_WORDS: usize = 64;
@@ -94,6 +102,18 @@ fn pair_written(first: u64, second: u64) -> Written
         first,
         second,
         third: 0,
+    }
+}
+
+fn triple_written(first: u64, second: u64, third: u64) -> Written
+    ensures { λ w. ⌜ writtenWords w ≡ padded (replyWords (gives (first ∷ second ∷ third ∷ []))) 5 ⌝ }
+{
+    Written {
+        number: 0,
+        place: 0,
+        first,
+        second,
+        third,
     }
 }
 
@@ -159,6 +179,36 @@ fn last_fixed_written(last: LastFixed) -> Written
         LastFixed::Variable(variable) => pair_written(1, variable.0 as u64),
         LastFixed::Nothing => value_written(0),
         LastFixed::Refused(r) => refusal_written(r),
+    }
+}
+
+fn covered_written(covered: Covered) -> Written
+    ensures { λ w. ⌜ writtenWords w ≡ padded (replyWords (coveredReply covered)) 5 ⌝ }
+{
+    match covered {
+        Covered::Agrees => value_written(0),
+        Covered::Differs(case) => pair_written(1, case),
+        Covered::Refused(r) => refusal_written(r),
+    }
+}
+
+fn listed_written(listed: Listed) -> Written
+    ensures { λ w. ⌜ writtenWords w ≡ padded (replyWords (listedReply listed)) 5 ⌝ }
+{
+    match listed {
+        Listed::Clauses(count) => value_written(count as u64),
+        Listed::Refused(r) => refusal_written(r),
+    }
+}
+
+fn sheet_written(read: SheetRead) -> Written
+    ensures { λ w. ⌜ writtenWords w ≡ padded (replyWords (sheetReply read)) 5 ⌝ }
+{
+    match read {
+        SheetRead::Dnf(s) => triple_written(1, s.n as u64, s.count as u64),
+        SheetRead::Cnf(s) => triple_written(2, s.n as u64, s.count as u64),
+        SheetRead::Table(s) => triple_written(3, s.n as u64, s.count as u64),
+        SheetRead::Refused(r) => refusal_written(r),
     }
 }
 
@@ -538,4 +588,152 @@ pub extern "C" fn collartug_exact_cardinality(
     }
     let counted = unary::exact_cardinality(n, count, bdd, work);
     write_reply(reply, counted_written(counted))
+}
+
+#[no_mangle]
+pub extern "C" fn collartug_mk_dnf(
+    n: u16,
+    count: usize,
+    clauses: &[u64],
+    room: usize,
+    out: &mut [u32],
+    work: &mut [u32],
+    reply: &mut [u64],
+) -> u64
+    ensures { λ r. ⌜ Exported (makesDnf n count (now (clauses .entry)) room (now (out .entry)) (now (work .entry))) r (now (out .entry)) (now (out .exit)) (now (work .entry)) (now (work .exit)) (now (reply .entry)) (now (reply .exit)) ⌝ }
+{
+    if reply.len() < REPLY_WORDS {
+        return 0;
+    }
+    let made = builders::mk_dnf(n, count, clauses, room, out, work);
+    write_reply(reply, made_written(made))
+}
+
+#[no_mangle]
+pub extern "C" fn collartug_mk_cnf(
+    n: u16,
+    count: usize,
+    clauses: &[u64],
+    room: usize,
+    out: &mut [u32],
+    work: &mut [u32],
+    reply: &mut [u64],
+) -> u64
+    ensures { λ r. ⌜ Exported (makesCnf n count (now (clauses .entry)) room (now (out .entry)) (now (work .entry))) r (now (out .entry)) (now (out .exit)) (now (work .entry)) (now (work .exit)) (now (reply .entry)) (now (reply .exit)) ⌝ }
+{
+    if reply.len() < REPLY_WORDS {
+        return 0;
+    }
+    let made = builders::mk_cnf(n, count, clauses, room, out, work);
+    write_reply(reply, made_written(made))
+}
+
+#[no_mangle]
+pub extern "C" fn collartug_mk_dnf_valuation(
+    n: u16,
+    count: usize,
+    cases: &[u64],
+    room: usize,
+    out: &mut [u32],
+    work: &mut [u32],
+    reply: &mut [u64],
+) -> u64
+    ensures { λ r. ⌜ Exported (makesDnfValuation n count (now (cases .entry)) room (now (out .entry)) (now (work .entry))) r (now (out .entry)) (now (out .exit)) (now (work .entry)) (now (work .exit)) (now (reply .entry)) (now (reply .exit)) ⌝ }
+{
+    if reply.len() < REPLY_WORDS {
+        return 0;
+    }
+    let made = builders::mk_dnf_valuation(n, count, cases, room, out, work);
+    write_reply(reply, made_written(made))
+}
+
+#[no_mangle]
+pub extern "C" fn collartug_mk_cnf_valuation(
+    n: u16,
+    count: usize,
+    cases: &[u64],
+    room: usize,
+    out: &mut [u32],
+    work: &mut [u32],
+    reply: &mut [u64],
+) -> u64
+    ensures { λ r. ⌜ Exported (makesCnfValuation n count (now (cases .entry)) room (now (out .entry)) (now (work .entry))) r (now (out .entry)) (now (out .exit)) (now (work .entry)) (now (work .exit)) (now (reply .entry)) (now (reply .exit)) ⌝ }
+{
+    if reply.len() < REPLY_WORDS {
+        return 0;
+    }
+    let made = builders::mk_cnf_valuation(n, count, cases, room, out, work);
+    write_reply(reply, made_written(made))
+}
+
+#[no_mangle]
+pub extern "C" fn collartug_check_cover(
+    n: u16,
+    count: usize,
+    bdd: &[u32],
+    clause_count: usize,
+    clauses: &[u64],
+    room: usize,
+    work: &mut [u32],
+    reply: &mut [u64],
+) -> u64
+    ensures { λ r. ⌜ ExportedWork (checksCover n count (now (bdd .entry)) «clause_count» (now (clauses .entry)) room (now (work .entry))) r (now (work .entry)) (now (work .exit)) (now (reply .entry)) (now (reply .exit)) ⌝ }
+{
+    if reply.len() < REPLY_WORDS {
+        return 0;
+    }
+    let covered = cover::check_cover(n, count, bdd, clause_count, clauses, room, work);
+    write_reply(reply, covered_written(covered))
+}
+
+#[no_mangle]
+pub extern "C" fn collartug_to_dnf(
+    n: u16,
+    count: usize,
+    bdd: &[u32],
+    out: &mut [u64],
+    work: &mut [u32],
+    reply: &mut [u64],
+) -> u64
+    ensures { λ r. ⌜ Exported (listsDnf n count (now (bdd .entry)) (now (out .entry)) (now (work .entry))) r (now (out .entry)) (now (out .exit)) (now (work .entry)) (now (work .exit)) (now (reply .entry)) (now (reply .exit)) ⌝ }
+{
+    if reply.len() < REPLY_WORDS {
+        return 0;
+    }
+    let listed = lists::to_dnf(n, count, bdd, out, work);
+    write_reply(reply, listed_written(listed))
+}
+
+#[no_mangle]
+pub extern "C" fn collartug_to_cnf(
+    n: u16,
+    count: usize,
+    bdd: &[u32],
+    out: &mut [u64],
+    work: &mut [u32],
+    reply: &mut [u64],
+) -> u64
+    ensures { λ r. ⌜ Exported (listsCnf n count (now (bdd .entry)) (now (out .entry)) (now (work .entry))) r (now (out .entry)) (now (out .exit)) (now (work .entry)) (now (work .exit)) (now (reply .entry)) (now (reply .exit)) ⌝ }
+{
+    if reply.len() < REPLY_WORDS {
+        return 0;
+    }
+    let listed = lists::to_cnf(n, count, bdd, out, work);
+    write_reply(reply, listed_written(listed))
+}
+
+#[no_mangle]
+pub extern "C" fn collartug_read_sheet(
+    bytes: &[u8],
+    clauses: &mut [u64],
+    nodes: &mut [u32],
+    reply: &mut [u64],
+) -> u64
+    ensures { λ r. ⌜ ExportedPair (readsSheet (now (bytes .entry)) (now (clauses .entry)) (now (nodes .entry))) r (now (clauses .entry)) (now (clauses .exit)) (now (nodes .entry)) (now (nodes .exit)) (now (reply .entry)) (now (reply .exit)) ⌝ }
+{
+    if reply.len() < REPLY_WORDS {
+        return 0;
+    }
+    let read = sheet::read_sheet(bytes, clauses, nodes);
+    write_reply(reply, sheet_written(read))
 }

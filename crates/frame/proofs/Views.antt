@@ -3,8 +3,10 @@ use mathlib.Core.Path.{_≡_, refl, sym, ap, ap₂, subst, _∙_}
 use mathlib.Core.List.{List, [], _∷_, _++_, append-nil}
 use Prim.Native.Nat.{ℕ, zero, suc, _+_, _-_, _*_, _<_, _≤_}
 use native.Mathlib.Omega.{arith}
+use lib.Dec.{ltb}
 use lib.ListN.{length, take, drop, length-drop}
 use lib.Seq.{take-nil, take-take, drop-drop, take-at, drop-at, length-take-le}
+use borrow.Author.Tests.{ltb-true, ltb-false}
 use Rattle.theory.specs.Tree.{Tree, Deep}
 use Rattle.theory.specs.Table.{canon, meaning, Ordered}
 use Rattle.theory.specs.Words.{stride, nodes, wordsOf}
@@ -12,7 +14,12 @@ use Rattle.theory.proofs.Words.{length-nodes, nodes-words, words-nodes}
 use Rattle.theory.proofs.Canon.{canon-ordered, canon-means}
 use Rattle.refusal.specs.Limits.{maxMarks, maxNodes}
 use Rattle.table.specs.Inspection.{SoundTable}
-use Rattle.frame.specs.Held.{part, Kept, Tab, Held}
+use Rattle.making.specs.declared.Tabled.the-variants as tabled
+use Rattle.making.specs.Made.{Leaves}
+use Rattle.frame.specs.declared.Size.{Size}
+use Rattle.frame.specs.declared.Made.{Made}
+use Rattle.frame.specs.declared.Made.the-variants.{Count, Over}
+use Rattle.frame.specs.Held.{part, Kept, Tab, Sized, Lies, Left, Gives}
 
 pub drop-take : (s d : ℕ) (w : List ℕ) → drop s (take d w) ≡ take (d - s) (drop s w)
 drop-take zero d w = let e : d ≡ d - zero = omega arith in ap (λ (z : ℕ). take z w) e
@@ -107,3 +114,18 @@ tab-made n w d e k g deep h i l is = record {
   count = sym (length-nodes k (part d e w)) ∙ ap length is;
   words = sym (take-take (stride * k) (e - d) (drop d w) l) ∙ sym (words-nodes k (part d e w) (omega (arith, part-long d e w i))) ∙ ap wordsOf is;
 }
+
+pub sized-of : (q : Size) (len d : ℕ) → Lies q len d → Sized q len
+sized-of q len d l = record { mem = l .mem; few = l .few; marks = l .marks }
+
+-- a core's answer as an operation's
+pub leaves-over : (n room : ℕ) (g : Tree) (out : List ℕ) → Leaves (ltb room (length (canon n g))) 0 (canon n g) out (tabled.Over 0) → Left n room g out Over
+leaves-over n room g out x = ltb-true room (length (canon n g)) (x .0)
+
+pub leaves-count : (n room : ℕ) (g : Tree) (out : List ℕ) (c : ℕ) → Leaves (ltb room (length (canon n g))) 0 (canon n g) out (tabled.Count c) → Left n room g out (Count c)
+leaves-count n room g out c x = (x .0, x .1, omega (arith, ltb-false room (length (canon n g)) (x .2), ap length (x .1), length-nodes c out))
+
+-- what a whole operation leaves in its place is its answer
+pub left-gives : (q : Size) (w : List ℕ) (d e : ℕ) (g : Tree) → Deep (q .n) g → d ≤ e → e ≤ length w → (r : Made) → Left (q .n) (q .room) g (part d e w) r → Gives q w d g r
+left-gives q w d e g deep h i (Count k) x = (tab-made (q .n) w d e k g deep h i (omega (arith, x .0, part-long d e w i)) (x .1), x .2)
+left-gives q w d e g deep h i Over x = x

@@ -1,4 +1,4 @@
-// Tables in one slice, by their offsets: the layout, copies, the false table. Inner.
+// Tables in one slice, by their offsets: the layout, nodes made in a part of it, copies, the false table. Inner.
 // Whatever writes at an offset leaves everything below it as it was.
 ghost use mathlib.Core.Path.{_≡_};
 ghost use mathlib.Core.Bool.{false};
@@ -6,9 +6,15 @@ ghost use mathlib.Core.Logic.{_⊎_};
 ghost use Prim.Native.Nat.{_+_, _*_, _≤_};
 ghost use lib.ListN.{length, take};
 ghost use Rattle.theory.specs.Tree.{konst};
-ghost use Rattle.theory.specs.Words.{stride};
-ghost use Rattle.frame.specs.Held.{Tab, Copies};
+ghost use Rattle.theory.specs.Table.{mk, constants};
+ghost use Rattle.theory.specs.Words.{stride, nodes};
+ghost use Rattle.refusal.specs.Buffers.{padded};
+ghost use Rattle.pool.specs.Pool.{Noding, Answers};
+ghost use Rattle.frame.specs.Held.{part, Kept, Tab, Copies};
+use pool::Noted;
+use table::BddPointer;
 use table::NODE_WORDS;
+use valuation::BddVariable;
 
 // The slice: tables over n marks of at most room nodes, in places of wide nodes each; from mem on the memory of a running operation.
 pub struct Size {
@@ -22,6 +28,43 @@ pub struct Size {
 pub enum Made {
     Count(u32),
     Over,
+}
+
+// A node made or found in the words from start to end.
+pub fn node_in(
+    w: &mut [u32],
+    start: usize,
+    end: usize,
+    n: u16,
+    room: u32,
+    count: u32,
+    variable: BddVariable,
+    low: BddPointer,
+    high: BddPointer,
+) -> Noted
+    requires { ⌜ (start ≤ end) × (end ≤ length (now w)) × Noding (part start end (now w)) n room count (variable .0) (low .0) (high .0) ⌝ }
+    ensures { λ _. ⌜ Kept (now (w .entry)) (now (w .exit)) start end ⌝ }
+    ensures { λ r. ⌜ Answers (mk (nodes count (part start end (now (w .entry)))) (variable .0) (low .0) (high .0)) room (part start end (now (w .exit))) r ⌝ }
+{
+    pool::make_node(&mut w[start..end], n, room, count, variable, low, high)
+}
+
+// The constants at the front of the words from start to end.
+pub fn constants_in(w: &mut [u32], start: usize, end: usize, n: u16)
+    requires { ⌜ (start ≤ end) × (end ≤ length (now w)) × (stride * 2 ≤ length (part start end (now w))) ⌝ }
+    ensures { λ _. ⌜ Kept (now (w .entry)) (now (w .exit)) start end ⌝ }
+    ensures { λ _. ⌜ nodes 2 (part start end (now (w .exit))) ≡ constants n ⌝ }
+{
+    making::put_constants(&mut w[start..end], n)
+}
+
+// Zeros in the words from start to end.
+pub fn clear_in(w: &mut [u32], start: usize, end: usize)
+    requires { ⌜ (start ≤ end) × (end ≤ length (now w)) ⌝ }
+    ensures { λ _. ⌜ Kept (now (w .entry)) (now (w .exit)) start end ⌝ }
+    ensures { λ _. ⌜ part start end (now (w .exit)) ≡ padded (take 0 (part start end (now (w .entry)))) (length (part start end (now (w .entry)))) ⌝ }
+{
+    refusal::zero_u32_from(&mut w[start..end], 0)
 }
 
 // The table of no.

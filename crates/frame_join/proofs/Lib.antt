@@ -1,1 +1,2 @@
 pub mod FramedLaws
+pub mod WholeLaws

@@ -1,5 +1,5 @@
 -- The three equations of an entry that makes a table, from its admission, its core and the settling.
-use mathlib.Core.Path.{_≡_, refl, sym, ap, _∙_}
+use mathlib.Core.Path.{_≡_, refl, sym, ap, subst, _∙_}
 use mathlib.Core.Bool.{Bool, false, cond}
 use mathlib.Core.List.{List, [], _∷_}
 use Prim.Native.Nat.{ℕ, _*_}
@@ -17,7 +17,7 @@ use Rattle.making.specs.declared.Made.{Made}
 use Rattle.making.specs.declared.Made.the-variants as made
 use Rattle.making.specs.declared.Tabled.{Tabled}
 use Rattle.making.specs.declared.Tabled.the-variants.{Count, Over}
-use Rattle.making.specs.Made.{madeReply, tableAnswer, makes, Leaves, Settles}
+use Rattle.making.specs.Made.{madeReply, tableAnswer, makes, Leaves, Settling, Settles}
 
 -- what a call leaves, as its verdict says
 pub record Outcome (v : Verdict) (r : Made) (out out′ work work′ : List ℕ) : Type 0 where
@@ -73,6 +73,24 @@ module _ (fs : List Finding) (over : Bool) (place : ℕ) (t : Table) where
         (cleared-outcome _ p out out′ work work′ (verdict-is ∙ ap (λ b. cond b (refused NODES place) (tableAnswer t)) (left .0) ∙ ap (refused NODES) (left .1))
         (cleared .output ∙ ap (padded []) same-out)
         (cleared .memory ∙ ap (padded []) same-work))
+
+-- what a core left can be settled
+pub leaves-settling : (over : Bool) (place : ℕ) (t : Table) (out : List ℕ) (tabled : Tabled) → Leaves over place t out tabled → Settling tabled out
+leaves-settling over place t out (Count c) left = left .0
+leaves-settling over place t out (Over p) left = tt
+
+-- findings that let every verdict pass
+pub clean-outcome : (fs : List Finding) → Clean (judged fs) → (over : Bool) (place : ℕ) (t : Table) (r : Made) (out out′ work work′ : List ℕ)
+    → Outcome (makes [] over place t) r out out′ work work′ → Outcome (makes fs over place t) r out out′ work work′
+unfolding makes judged tried order firstOf
+clean-outcome fs clean over place t r out out′ work work′ o = subst (λ v. Outcome v r out out′ work work′) (sym (clean _)) o
+
+-- what a call leaves, as its contract says it
+abbrev pub Equations : Verdict → Made → List ℕ → List ℕ → List ℕ → List ℕ → Type 0
+Equations v r out out′ work work′ = (madeReply r ≡ replied v) × ((out′ ≡ outputAfter 0 v out) × (work′ ≡ workAfter v work))
+
+pub equations : (v : Verdict) (r : Made) (out out′ work work′ : List ℕ) → Outcome v r out out′ work work′ → Equations v r out out′ work work′
+equations v r out out′ work work′ o = (o .reply, (o .output, o .memory))
 
 -- different answers have different replies
 pub made-one : OneToOne madeReply

@@ -7,12 +7,11 @@ use native.Mathlib.Omega.{arith}
 use lib.Dec.{ltb}
 use lib.ListN.{length}
 use Rattle.theory.specs.Tree.{Tree, leaf, fork, Deep, pointwise, cofactor}
-use Rattle.theory.specs.Table.{Table, canon, meaning}
+use Rattle.theory.specs.Table.{canon, meaning}
 use Rattle.theory.specs.Words.{nodes}
 use Rattle.refusal.specs.Number.{order}
 use Rattle.refusal.specs.Limits.{maxNodes}
-use Rattle.refusal.specs.Buffers.{outputAfter, workAfter}
-use Rattle.refusal.specs.Verdict.{Verdict, Finding, firstOf, tried, judged, replied}
+use Rattle.refusal.specs.Verdict.{firstOf, tried, judged, replied}
 use Rattle.refusal.specs.declared.Refusal.{Refusal}
 use Rattle.refusal.proofs.Judged.{Clean}
 use Rattle.valuation.specs.declared.BddVariable.{BddVariable}
@@ -24,9 +23,8 @@ use Rattle.table.proofs.AdmissionLaws.{admission-clean}
 use Rattle.making.specs.declared.Made.{Made}
 use Rattle.making.specs.declared.Made.the-variants as made
 use Rattle.making.specs.declared.Tabled.{Tabled}
-use Rattle.making.specs.declared.Tabled.the-variants.{Count, Over}
-use Rattle.making.specs.Made.{madeReply, makes, operates, Leaves, Settling, Settles}
-use Rattle.making.proofs.MakesLaws.{Outcome, makes-settled}
+use Rattle.making.specs.Made.{operates, Leaves, Settles}
+use Rattle.making.proofs.MakesLaws.{Outcome, makes-settled, clean-outcome}
 use Rattle.admission.specs.Admission.{markFindings, pairFindings}
 use Rattle.admission.proofs.Admitted.{refused-outcome, Roomed, mark-quiet, mark-admitted, pair-quiet, pair-admitted}
 use Rattle.join.specs.declared.Job.{Job}
@@ -37,25 +35,11 @@ use Rattle.operators.proofs.OperatesLaws.{meaning-deep}
 use Rattle.operators.specs.Operators.{andNot, pairJob, markJob}
 
 -- ---- the join, settled
-pub leaves-settling : (over : Bool) (place : ℕ) (t : Table) (out : List ℕ) (tabled : Tabled) → Leaves over place t out tabled → Settling tabled out
-leaves-settling over place t out (Count c) left = left .0
-leaves-settling over place t out (Over p) left = tt
-
 pub joined-outcome : (n room : ℕ) (g : Tree) (out₁ out out′ work₁ work work′ : List ℕ) → length out₁ ≡ length out → length work₁ ≡ length work → (tabled : Tabled) (r : Made)
     → Leaves (ltb room (length (canon n g))) 0 (canon n g) out₁ tabled → Settles tabled out₁ out′ work₁ work′ r → Outcome (operates [] n room g) r out out′ work work′
 unfolding judged tried order firstOf
 joined-outcome n room g out₁ out out′ work₁ work work′ eo ew tabled r left kept =
     makes-settled [] (ltb room (length (canon n g))) 0 (canon n g) (λ v. refl) out₁ out out′ work₁ work work′ eo ew tabled r left kept
-
--- findings that let every verdict pass
-clean-outcome : (fs : List Finding) → Clean (judged fs) → (n room : ℕ) (g : Tree) (r : Made) (out out′ work work′ : List ℕ)
-    → Outcome (operates [] n room g) r out out′ work work′ → Outcome (operates fs n room g) r out out′ work work′
-unfolding makes judged tried order firstOf
-clean-outcome fs clean n room g r out out′ work work′ o = subst (λ v. Outcome v r out out′ work work′) (sym (clean _)) o
-
--- what a call leaves, as its contract says it
-pub three : (v : Verdict) (r : Made) (out out′ work work′ : List ℕ) → Outcome v r out out′ work work′ → (madeReply r ≡ replied v) × ((out′ ≡ outputAfter 0 v out) × (work′ ≡ workAfter v work))
-three v r out out′ work work′ o = (o .reply, (o .output, o .memory))
 
 -- ---- two tables
 module _ (n lefts : ℕ) (left : List ℕ) (rights : ℕ) (right : List ℕ) (room : ℕ) (out work : List ℕ) (a : Inspection)
@@ -87,7 +71,7 @@ module _ (n lefts : ℕ) (left : List ℕ) (rights : ℕ) (right : List ℕ) (ro
     pair-outcome op f table job built r out′ work′ o =
         clean-outcome (pairFindings n lefts left rights right room out work)
         (admission-clean (pairFindings n lefts left rights right room out work) rights a e p is .0)
-        n room _ r out out′ work work′
+        _ _ _ r out out′ work work′
         (subst (λ g. Outcome (operates [] n room g) r out out′ work work′) means
         (subst (λ (j : Job). Outcome (operates [] (j .n) (j .room) (joinedBy left right j)) r out out′ work work′) built o))
       where
@@ -132,6 +116,6 @@ module _ (n count : ℕ) (words : List ℕ) (room : ℕ) (out work : List ℕ) (
         → Outcome (operates [] (job .n) (job .room) (joinedBy words words job)) r out out′ work work′
         → Outcome (operates (markFindings n count words (mark .0) room out work) n room (pointwise f (cofactor (mark .0) false (meaning n (nodes count words))) (cofactor (mark .0) true (meaning n (nodes count words))))) r out out′ work work′
     mark-outcome op f table job built r out′ work′ o =
-        clean-outcome (markFindings n count words (mark .0) room out work) (clean .0) n room _ r out out′ work work′
+        clean-outcome (markFindings n count words (mark .0) room out work) (clean .0) _ _ _ r out out′ work work′
         (subst (λ h. Outcome (operates [] n room (pointwise h (cofactor (mark .0) false (meaning n (nodes count words))) (cofactor (mark .0) true (meaning n (nodes count words))))) r out out′ work work′) table
         (subst (λ (j : Job). Outcome (operates [] (j .n) (j .room) (joinedBy words words j)) r out out′ work work′) built o))

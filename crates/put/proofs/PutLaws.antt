@@ -1,41 +1,26 @@
 -- What `put` rests on: each step adds to the pool what the walk adds.
 use mathlib.Core.Path.{_≡_, refl, sym, ap, subst, _∙_}
 use mathlib.Core.Bool.{Bool, true, false}
-use mathlib.Core.List.{List, [], _∷_, _++_, append-assoc}
-use mathlib.Core.Logic.{_⊎_, inl, inr}
+use mathlib.Core.List.{List, _++_, append-assoc}
+use mathlib.Core.Logic.{inl, inr}
 use Prim.Native.Nat.{ℕ, zero, suc, _+_, _-_, _/_, _%_, _<_, _≤_}
 use native.Mathlib.Omega.{arith}
 use native.Mathlib.Numerals.{add-one}
-use native.Mathlib.Decide.{ℕ-discrete}
 use lib.ListN.{length, length-append}
 use Rattle.theory.specs.Tree.{Tree, fork, Deep}
-use Rattle.theory.specs.Table.{Node, node, Table, at, step, treeOf, truth, grow, mk, walk, Good}
+use Rattle.theory.specs.Table.{Node, node, Table, at, step, treeOf, truth, mk, walk, Good}
 use Rattle.theory.specs.Words.{nodes}
 use Rattle.theory.proofs.Step.{Stands, stands-step, step-append}
-use Rattle.theory.proofs.Find.{Fresh, Present, grow-cases, mk-same, mk-other}
 use Rattle.theory.proofs.Walk.{Walked, sound, found, stands-old, at-old, mk-sound}
 use Rattle.theory.proofs.Words.{length-nodes}
 use Rattle.theory.proofs.Again.{walk-again, walk-grows}
+use Rattle.theory.proofs.Turned.{mk-grows, walk-fork}
 use Rattle.cube.proofs.Cubes.{part-deep, part-append, stays}
 use Rattle.put.specs.declared.Job.{Job}
 use Rattle.put.specs.declared.Cut.{Cut}
 use Rattle.pool.specs.declared.Noted.{Noted}
 use Rattle.pool.specs.declared.Noted.the-variants.{Node as Got, Full}
-use Rattle.put.specs.Put.{tree, word, wordOf, Ready, Parted, Settling, Settled, Settles, Put, Puts, Forking}
-
-mk-more : (s : Table) (l p q : ℕ) → length s ≤ length ((mk s l p q) .0)
-mk-more s l p q = elim (ℕ-discrete p q) [
-  | yes e ↦ rw (← e, mk-same s l p) (omega arith)
-  | no e ↦ rw (mk-other s l p q e) (go (grow-cases s (node l p q)))
-]
-  where
-    go : Fresh s (node l p q) ⊎ Present s (node l p q) → length s ≤ length (grow s (node l p q))
-    go (inl m) = rw (m .table) (omega (arith, length-append s (node l p q ∷ [])))
-    go (inr m) = rw (m .table) (omega arith)
-
-walk-fork : (s : Table) (l : ℕ) (lo hi : Tree) (s₁ : Table) (p : ℕ) → walk s (suc l) lo ≡ (s₁, p) → walk s l (fork lo hi) ≡ mk ((walk s₁ (suc l) hi) .0) l p ((walk s₁ (suc l) hi) .1)
-unfolding walk
-walk-fork s l lo hi s₁ p e = rw e
+use Rattle.put.specs.Put.{memoBase, tree, word, wordOf, Ready, Parted, Settling, Settled, Settles, Put, Puts, Forking}
 
 tree-deep : (j : Job) (s : Table) (l a : ℕ) (off : Bool) → Deep (j .n - l) (tree j s l a off)
 tree-deep j s l a off = part-deep (truth (j .term)) (j .fixed) (j .values) s (j .n - l) l a off
@@ -89,7 +74,7 @@ module _ (w : List ℕ) (j : Job) (l k a : ℕ) (off : Bool) (r : Ready w j l k 
       rw (d .walks, walk-fork s v lo-tree hi-tree ((walk s (suc v) lo-tree) .0) ((walk s (suc v) lo-tree) .1) refl)
       (omega (
         arith,
-        mk-more ((walk ((walk s (suc v) lo-tree) .0) (suc v) hi-tree) .0) v ((walk s (suc v) lo-tree) .1) ((walk ((walk s (suc v) lo-tree) .0) (suc v) hi-tree) .1),
+        mk-grows ((walk ((walk s (suc v) lo-tree) .0) (suc v) hi-tree) .0) v ((walk s (suc v) lo-tree) .1) ((walk ((walk s (suc v) lo-tree) .0) (suc v) hi-tree) .1),
         walk-grows (j .n) (j .n - suc v) hi-tree (tree-deep j s (suc v) (c .high .0) (c .highkept)) (suc v) whole ((walk s (suc v) lo-tree) .0) (a₁ .good),
       ))
 
@@ -133,7 +118,7 @@ module _ (w : List ℕ) (j : Job) (l k a : ℕ) (off : Bool) (r : Ready w j l k 
     pub full-hi : j .cap < length ((walk s₁ (v + 1) (tree j s₁ (v + 1) (c .high .0) (c .highkept))) .0) → j .cap < length ((walk s l T) .0)
     full-hi h =
         let h′ : j .cap < length ((walk s₁ (suc v) hi-tree) .0) = rw (add-one v, hi-same) at h in
-        rw split₁ (omega (arith, mk-more ((walk s₁ (suc v) hi-tree) .0) v p ((walk s₁ (suc v) hi-tree) .1)))
+        rw split₁ (omega (arith, mk-grows ((walk s₁ (suc v) hi-tree) .0) v p ((walk s₁ (suc v) hi-tree) .1)))
 
     -- the high side is q, in w₂
     module _ (w₂ : List ℕ) (q k₂ : ℕ) (n₂ : length w₂ ≡ length w₁) (x : Put w₁ w₂ j (v + 1) k₁ (c .high .0) (c .highkept) q k₂) where
@@ -243,10 +228,10 @@ module _ (w : List ℕ) (j : Job) (l k a : ℕ) (off : Bool) (r : Ready w j l k 
         k-more : k₂ ≤ k₃
         k-more = omega (arith, ap length (mk₃ .grown), length-append s₂ (mk₃ .more), length-nodes k₃ w₃, length-nodes k₂ w₂)
 
-        word-div : wordOf (j .stamp) o / 16384 ≡ j .stamp
+        word-div : wordOf (j .stamp) o / memoBase ≡ j .stamp
         word-div = omega (arith, o-small, y .holds .fits, r .few)
 
-        word-mod : wordOf (j .stamp) o % 16384 ≡ o
+        word-mod : wordOf (j .stamp) o % memoBase ≡ o
         word-mod = omega (arith, o-small, y .holds .fits, r .few)
 
         a-in : a < k₃
@@ -258,17 +243,17 @@ module _ (w : List ℕ) (j : Job) (l k a : ℕ) (off : Bool) (r : Ready w j l k 
           holds = record { is = is₃; fits = y .holds .fits };
           known = λ i h e. elim (y .memo i h) [
             | inl q ↦
-                let f = x .known i h (ap (λ z. z / 16384) (sym q) ∙ e) in
-                (omega (arith, f .0, k-more), old-says i _ (omega (arith, f .0, length-nodes k₂ w₂)) (f .1) ∙ ap (λ (z : ℕ). (s₃, z % 16384)) (sym q))
+                let f = x .known i h (ap (λ z. z / memoBase) (sym q) ∙ e) in
+                (omega (arith, f .0, k-more), old-says i _ (omega (arith, f .0, length-nodes k₂ w₂)) (f .1) ∙ ap (λ (z : ℕ). (s₃, z % memoBase)) (sym q))
             | inr q ↦ (
               omega (arith, q .1, a-in),
-              subst (λ (z : ℕ). walk s₃ ((at s₃ z) .mark) (tree j s₃ ((at s₃ z) .mark) z false) ≡ (s₃, word w₃ (j .cap) i % 16384)) (sym (q .1))
-                  (new-says (q .0) ∙ ap (λ (z : ℕ). (s₃, z)) (sym word-mod ∙ ap (λ z. z % 16384) (sym (q .2)))),
+              subst (λ (z : ℕ). walk s₃ ((at s₃ z) .mark) (tree j s₃ ((at s₃ z) .mark) z false) ≡ (s₃, word w₃ (j .cap) i % memoBase)) (sym (q .1))
+                  (new-says (q .0) ∙ ap (λ (z : ℕ). (s₃, z)) (sym word-mod ∙ ap (λ z. z % memoBase) (sym (q .2)))),
             )
           ];
           young = λ i h. elim (y .memo i h) [
-            | inl q ↦ subst (λ z. z / 16384 ≤ j .stamp) (sym q) (x .young i h)
-            | inr q ↦ subst (λ z. z / 16384 ≤ j .stamp) (sym (q .2)) (omega (arith, word-div))
+            | inl q ↦ subst (λ z. z / memoBase ≤ j .stamp) (sym q) (x .young i h)
+            | inr q ↦ subst (λ z. z / memoBase ≤ j .stamp) (sym (q .2)) (omega (arith, word-div))
           ];
         }
 

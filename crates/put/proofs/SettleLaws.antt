@@ -15,7 +15,7 @@ use Rattle.theory.proofs.Walk.{Walked, mk-own, mk-sound}
 use Rattle.theory.proofs.Words.{length-nodes, nodes-agree}
 use Rattle.put.specs.declared.Job.{Job}
 use Rattle.put.specs.declared.Cut.{Cut}
-use Rattle.put.specs.Put.{word, wordOf, Settling, Settled}
+use Rattle.put.specs.Put.{memoBase, word, wordOf, Settling, Settled}
 use Rattle.making.specs.Made.{Beyond}
 use Rattle.pool.specs.Pool.{Holds}
 
@@ -42,7 +42,7 @@ module _ (w : List ℕ) (j : Job) (k : ℕ) (c : Cut) (a p q : ℕ) (r : Settlin
   pub slot-in : (w₁ : List ℕ) → length w₁ ≡ length w → 3 * j .cap + a < length w₁
   slot-in w₁ e = omega (arith, a-in, r .noded .pushing .fits, r .long)
 
-  pub a-small : a < 16384
+  pub a-small : a < memoBase
   a-small = omega (arith, a-in, r .noded .pushing .fits, r .noded .pushing .few)
 
   -- nothing is changed: the node itself
@@ -59,7 +59,7 @@ module _ (w : List ℕ) (j : Job) (k : ℕ) (c : Cut) (a p q : ℕ) (r : Settlin
     memo = λ x h. keep-memo (j .cap) (j .stamp) a _ w w′ (slot-in w refl) (c .own) e x;
   }
 
-  pub root-in : (w₁ : List ℕ) (o k₁ : ℕ) → Holds (mk (nodes k w) (c .variable .0) p q) (j .cap) w₁ o k₁ → o < 16384
+  pub root-in : (w₁ : List ℕ) (o k₁ : ℕ) → Holds (mk (nodes k w) (c .variable .0) p q) (j .cap) w₁ o k₁ → o < memoBase
   root-in w₁ o k₁ h =
       let m : ℕ = j .n - suc (c .variable .0) in
       let t : Tree = fork (treeOf m (nodes k w) (suc (c .variable .0)) p) (treeOf m (nodes k w) (suc (c .variable .0)) q) in

@@ -19,7 +19,7 @@ use Rattle.cube.proofs.Shifts.{shr-add, tz-even, tz-odd, none-left}
 use Rattle.cube.proofs.Cubes.{part-fork, part-jump, part-off, part-all, part-term}
 use Rattle.put.specs.declared.Job.{Job}
 use Rattle.put.specs.declared.Cut.{Cut}
-use Rattle.put.specs.Put.{rest, offLow, offHigh, tree, word, Ready, Parted}
+use Rattle.put.specs.Put.{memoBase, rest, offLow, offHigh, tree, word, Ready, Parted}
 
 module _ (w : List ℕ) (j : Job) (l k a : ℕ) (r : Ready w j l k a) where
   abbrev s : Table
@@ -151,7 +151,7 @@ module _ (w : List ℕ) (j : Job) (l k a : ℕ) (r : Ready w j l k a) where
           owns = λ e. sym em;
         }
 
-    pub done-memo : (m e : ℕ) → m ≡ (at s a) .mark → (next < m → ⊥) → word w (j .cap) a / 16384 ≡ j .stamp → e ≡ word w (j .cap) a % 16384 → walk s l (tree j s l a false) ≡ (s, e)
+    pub done-memo : (m e : ℕ) → m ≡ (at s a) .mark → (next < m → ⊥) → word w (j .cap) a / memoBase ≡ j .stamp → e ≡ word w (j .cap) a % memoBase → walk s l (tree j s l a false) ≡ (s, e)
     done-memo m e em h st ee =
         jump ((at s a) .mark) (omega (arith, r .stands .fits)) (omega arith) (omega arith)
         ∙ r .known a (omega (arith, a-in, r .fits)) st .1

@@ -39,31 +39,38 @@ abbrev pub tree : Job → Table → ℕ → ℕ → Bool → Tree
 tree j s l a off = part (truth (j .term)) (j .fixed) (j .values) s (j .n - l) l a off
 
 -- ---- the memo
+-- a word is a stamp times this, and a node number below it; a u32 holds it for stamps below the limit
+abbrev pub memoBase : ℕ
+memoBase = 16384
+
+abbrev pub stampLimit : ℕ
+stampLimit = 262144
+
 abbrev pub word : List ℕ → ℕ → ℕ → ℕ
 word w cap x = getD w (3 * cap + x) 0
 
 abbrev pub wordOf : ℕ → ℕ → ℕ
-wordOf stamp r = stamp * 16384 + r
+wordOf stamp r = stamp * memoBase + r
 
 abbrev pub Recalls : ℕ → ℕ → Found → Type 0
-Recalls e stamp (At r) = (e / 16384 ≡ stamp) × (r .0 ≡ e % 16384)
-Recalls e stamp Nowhere = e / 16384 ≡ stamp → ⊥
+Recalls e stamp (At r) = (e / memoBase ≡ stamp) × (r .0 ≡ e % memoBase)
+Recalls e stamp Nowhere = e / memoBase ≡ stamp → ⊥
 
 -- what the memo knows of a node, the walk finds in the pool as it is
 abbrev pub Known : List ℕ → Job → ℕ → Type 0
-Known w j k = (x : ℕ) → x < j .cap → word w (j .cap) x / 16384 ≡ j .stamp
-    → (x < k) × (walk (nodes k w) ((at (nodes k w) x) .mark) (tree j (nodes k w) ((at (nodes k w) x) .mark) x false) ≡ (nodes k w, word w (j .cap) x % 16384))
+Known w j k = (x : ℕ) → x < j .cap → word w (j .cap) x / memoBase ≡ j .stamp
+    → (x < k) × (walk (nodes k w) ((at (nodes k w) x) .mark) (tree j (nodes k w) ((at (nodes k w) x) .mark) x false) ≡ (nodes k w, word w (j .cap) x % memoBase))
 
 -- no stamp is a later clause's
 abbrev pub Young : List ℕ → ℕ → ℕ → Type 0
-Young w cap stamp = (x : ℕ) → x < cap → word w cap x / 16384 ≤ stamp
+Young w cap stamp = (x : ℕ) → x < cap → word w cap x / memoBase ≤ stamp
 
 pub record Ready (w : List ℕ) (j : Job) (l k a : ℕ) : Type 0 where
   pub marks : j .n ≤ 60
   pub fixed : j .fixed < 2 ^ j .n
   pub term : j .term < 2
-  pub stamp : j .stamp < 262144
-  pub few : j .cap ≤ 16384
+  pub stamp : j .stamp < stampLimit
+  pub few : j .cap ≤ memoBase
   pub long : 4 * j .cap ≤ length w
   pub level : l ≤ j .n
   pub fits : k ≤ j .cap
@@ -95,7 +102,7 @@ pub record Settling (w : List ℕ) (j : Job) (k : ℕ) (c : Cut) (a p q : ℕ) :
   pub low : c .low .0 ≡ step (nodes k w) (c .variable .0) false a
   pub high : c .high .0 ≡ step (nodes k w) (c .variable .0) true a
   pub fits : Stands (nodes k w) (c .variable .0) a
-  pub stamp : j .stamp < 262144
+  pub stamp : j .stamp < stampLimit
 
 pub record Settled (w w′ : List ℕ) (j : Job) (k : ℕ) (c : Cut) (a p q r k′ : ℕ) : Type 0 where
   pub holds : Holds (mk (nodes k w) (c .variable .0) p q) (j .cap) w′ r k′

@@ -4,11 +4,14 @@ ghost use mathlib.Core.Path.{_≡_};
 ghost use mathlib.Core.Bool.{cond, false};
 ghost use Prim.Native.Nat.{_+_, _*_, _<_, _≤_};
 ghost use lib.ListN.{length, getD, set};
-ghost use Rattle.put.specs.Put.{offLow, offHigh, Recalls, Ready, Splits, Settling, Settles, Puts, Forking, wordOf};
+ghost use Rattle.put.specs.Put.{offLow, offHigh, memoBase, stampLimit, Recalls, Ready, Splits, Settling, Settles, Puts, Forking, wordOf};
 use pool::Found;
 use pool::Noted;
 use table::BddPointer;
 use valuation::BddVariable;
+
+// A word of the memo is a stamp times this, and a node number below it.
+const MEMO_BASE: u32 = 16384;
 
 // A clause, the constant that its cube leads to, its number among the clauses, and how many nodes the pool can hold.
 pub struct Job {
@@ -66,12 +69,12 @@ pub fn left_out(job: Job, mark: u16) -> Sides
 
 // What the memo knows of a node for this clause.
 pub fn recall(work: &[u32], cap: u32, stamp: u32, p: BddPointer) -> Found
-    requires { ⌜ (3 * cap + p .0 < length (now work)) × (cap ≤ 16384) ⌝ }
+    requires { ⌜ (3 * cap + p .0 < length (now work)) × (cap ≤ memoBase) ⌝ }
     ensures { λ r. ⌜ Recalls (getD (now (work .entry)) (3 * cap + p .0) 0) stamp r ⌝ }
 {
     let word = work[3 * (cap as usize) + (p.0 as usize)];
-    if word / 16384 == stamp {
-        Found::At(BddPointer(word % 16384))
+    if word / MEMO_BASE == stamp {
+        Found::At(BddPointer(word % MEMO_BASE))
     } else {
         Found::Nowhere
     }
@@ -79,11 +82,11 @@ pub fn recall(work: &[u32], cap: u32, stamp: u32, p: BddPointer) -> Found
 
 // The memo's word for a node, where it is split at its own mark.
 pub fn keep(work: &mut [u32], cap: u32, stamp: u32, own: bool, p: BddPointer, answer: BddPointer)
-    requires { ⌜ (3 * cap + p .0 < length (now work)) × (cap ≤ 16384) × (stamp < 262144) × (answer .0 < 16384) ⌝ }
+    requires { ⌜ (3 * cap + p .0 < length (now work)) × (cap ≤ memoBase) × (stamp < stampLimit) × (answer .0 < memoBase) ⌝ }
     ensures { λ _. ⌜ now (work .exit) ≡ cond own (set (now (work .entry)) (3 * cap + p .0) (wordOf stamp (answer .0))) (now (work .entry)) ⌝ }
 {
     if own {
-        work[3 * (cap as usize) + (p.0 as usize)] = stamp * 16384 + answer.0;
+        work[3 * (cap as usize) + (p.0 as usize)] = stamp * MEMO_BASE + answer.0;
     }
 }
 

@@ -17,8 +17,7 @@ use Rattle.rule.proofs.Sizes.{restrict-small}
 use Rattle.frame.specs.declared.Size.{Size}
 use Rattle.frame.specs.declared.Made.{Made}
 use Rattle.frame.specs.declared.Made.the-variants.{Count, Over}
-use Rattle.frame.specs.Held.{Tab, Held, Lies, Gives, Turns, Copies}
-use Rattle.ops.specs.Operations.{Operand}
+use Rattle.frame.specs.Held.{Tab, Held, Lies, Operand, Gives, Turns, Copies}
 use Rattle.dividing.specs.declared.Parts.{Parts}
 use Rattle.dividing.specs.Dividing.{place, coreAt, restAt}
 use Rattle.dividing.proofs.FitLaws.{operand}
@@ -45,11 +44,10 @@ module _ (q : Size) (f : ℕ) (p : Parts) (i : ℕ) (w : List ℕ) (pre : Loadin
   pub core-loaded : i ≡ 0 → (w₁ : List ℕ) → Copies (q .n) w w₁ (coreAt q f) (p .core) (nextAt q f) → Loads w w₁ q f p i (p .core)
   core-loaded e w₁ c g a = rw e (c (coreOf (q .n) g) (a .core), a .coreFits)
 
-  pub ask-fix : Lies q (length w) (nextAt q f) × Operand q w (restAt q f) (p .rest) (nextAt q f) × (p .mark .0 < q .n)
+  pub ask-fix : Lies q (length w) (nextAt q f) × Operand q w (restAt q f) (p .rest) (nextAt q f)
   ask-fix = (
     pre .lies,
     operand q w _ _ (pre .lies) (restAt q f) (p .rest) (nextAt q f) _ (pre .parts .rest) (pre .parts .restFits) (omega arith),
-    omega (arith, pre .parts .mark, pre .parts .less),
   )
 
   module _ (ne : i ≢ 0) (w₁ : List ℕ) (r : Made) (t : Turns (cofactor (p .mark .0) (eqb i 1)) q w w₁ (restAt q f) (p .rest) (nextAt q f) r) where

@@ -5,7 +5,8 @@ use Prim.Native.Nat.{ℕ, zero, suc, _+_, _*_, _/_, _≤_, _<_, min}
 use native.Mathlib.Omega.{arith}
 use lib.ListN.{length, take, set, length-set, length-append}
 use Rattle.theory.specs.Clause.{Clause}
-use Rattle.solving.specs.Solving.{clauseWords, capacity, Out, Pushes}
+use Rattle.listing.specs.Listed.{clauseWords, capacity}
+use Rattle.solving.specs.Solving.{Out, Pushes}
 
 two-more : (n : ℕ) (l : List ℕ) (a b : ℕ) → n + 2 ≤ length l → take (suc (suc n)) (set (set l n a) (suc n) b) ≡ take n l ++ (a ∷ b ∷ [])
 two-more n [] a b h = absurd (let z : ⊥ = omega arith in z)

@@ -24,9 +24,11 @@ use Rattle.dividing.specs.declared.Divided.{Divided}
 use Rattle.dividing.specs.declared.Divided.the-variants.{Into, TooLarge}
 use Rattle.dividing.specs.Dividing.{place, coreAt, restAt, tryAt, InFrame, Inner, Divides, DivideReady}
 use Rattle.dividing.proofs.FitLaws.{only, lies-at}
+use Rattle.listing.specs.Listed.{capacity}
 use Rattle.solving.specs.declared.Solved.{Solved}
 use Rattle.solving.specs.declared.Solved.the-variants.{Done, Nodes}
-use Rattle.solving.specs.Solving.{block, frameAt, nextAt, Same, capacity, Out, Pushes, Harmless, Proven, Recalls, Remembers, memory, partOf, literalsOf, solvedTo, calledTo, PartsAt, Loading, Loads, Ready, Answers, Solves, Still}
+use Rattle.solving.specs.Solving.{nextAt, Same, Out, Pushes, partOf, literalsOf, solvedTo, calledTo, PartsAt, Loading, Loads, Ready, Answers, Solves, Still}
+use Rattle.harmless.specs.Memory.{block, frameAt, memory, Harmless, Proven, Recalls, Remembers, Keeping}
 use Rattle.solving.proofs.RunLaws.{++-assoc, ++-nil, solved-parts, called-parts, called-next, over-stays}
 
 -- ---- words from the first frame on
@@ -36,7 +38,7 @@ same-front q x d w w′ h k e = part-front (frameAt q 0) x d w w′ h k e
 same-less : (q : Size) (s x : ℕ) (w w′ : List ℕ) → s ≤ x → Same q x w w′ → Same q s w w′
 same-less q s x w w′ h e = front-less (s - frameAt q 0) (x - frameAt q 0) (drop (frameAt q 0) w) (drop (frameAt q 0) w′) (omega arith) e
 
-tab-same : (q : Size) (o k : ℕ) (f : Tree) (x : ℕ) (w w′ : List ℕ) → frameAt q 0 ≤ o → o + stride * k ≤ x → Same q x w w′ → length w′ ≡ length w → Tab (q .n) w o k f → Tab (q .n) w′ o k f
+pub tab-same : (q : Size) (o k : ℕ) (f : Tree) (x : ℕ) (w w′ : List ℕ) → frameAt q 0 ≤ o → o + stride * k ≤ x → Same q x w w′ → length w′ ≡ length w → Tab (q .n) w o k f → Tab (q .n) w′ o k f
 tab-same q o k f x w w′ h i e l t = record {
   deep = t .deep;
   lies = omega (arith, t .lies);
@@ -47,10 +49,13 @@ tab-same q o k f x w w′ h i e l t = record {
     at-o : (v : List ℕ) → drop (o - frameAt q 0) (drop (frameAt q 0) v) ≡ drop o v
     at-o v = let z : frameAt q 0 + (o - frameAt q 0) ≡ o = omega arith in drop-drop (o - frameAt q 0) (frameAt q 0) v ∙ ap (λ (j : ℕ). drop j v) z
 
-frame-next : (q : Size) (d : ℕ) → frameAt q (d + 1) ≡ nextAt q (frameAt q d)
+pub frame-next : (q : Size) (d : ℕ) → frameAt q (d + 1) ≡ nextAt q (frameAt q d)
 frame-next q d =
     let e : q .n + 2 + (d + 1) ≡ suc (q .n + 2 + d) = omega arith in
     ap (λ i. block q * i) e ∙ mul-suc (block q) (q .n + 2 + d) ∙ (let z : block q * (q .n + 2 + d) + block q ≡ block q * (q .n + 2 + d) + 4 * (stride * q .wide) = omega arith in z)
+
+pub frame-up : (q : Size) (a b : ℕ) → a ≤ b → frameAt q a ≤ frameAt q b
+frame-up q a b h = mul-le-mul-left {m = q .n + 2 + a} {n = q .n + 2 + b} (block q) (omega arith)
 
 frame-first : (q : Size) (d : ℕ) → frameAt q 0 ≤ frameAt q d
 frame-first q d = mul-le-mul-left {m = q .n + 2 + 0} {n = q .n + 2 + d} (block q) (omega arith)
@@ -113,8 +118,11 @@ module _ (q : Size) (d kf k : ℕ) (y : Clause) (w out : List ℕ) (pre : Ready 
     lies-here : (v : List ℕ) → length v ≡ length w → (o : ℕ) → o + stride * q .wide ≤ q .mem → Lies q (length v) o
     lies-here v l o h = record { below = h; mem = omega (arith, pre .mem); room = pre .room; some = pre .some; few = pre .few; marks = pre .marks }
 
-    pub ask-recall : Remembers q (memory q w) × Held (q .n) w (frameAt q d) kf × (frameAt q 0 ≤ frameAt q d) × (kf ≤ q .room)
-    ask-recall = (pre .known, pre .held, frame-first q d, pre .fits)
+    keeping : (v : List ℕ) → Held (q .n) v (frameAt q d) kf → Keeping v q (frameAt q d) kf
+    keeping v h = record { held = h; behind = frame-first q d; fits = pre .fits; room = pre .room; some = pre .some; few = pre .few; marks = pre .marks }
+
+    pub ask-recall : Remembers q (memory q w) × Keeping w q (frameAt q d) kf
+    ask-recall = (pre .known, keeping w (pre .held))
 
     pub recalled : capacity out < k → (r : Bool) → Recalls q w (frameAt q d) kf r → r ≡ true → Ended q d kf k y w out w out (Done k)
     recalled full r rc hit = (
@@ -244,12 +252,10 @@ module _ (q : Size) (d kf k : ℕ) (y : Clause) (w out : List ℕ) (pre : Ready 
             needs-at : need (q .n) (inv .tree) + d ≤ q .n
             needs-at = only (q .n) w (frameAt q d) kf (pre .held .tree) (pre .held .tab) (λ G. need (q .n) G + d ≤ q .n) (pre .needs) (inv .tree) back
 
-            pub ask-remember : Remembers q (memory q w₂) × Held (q .n) w₂ (frameAt q d) kf × (frameAt q 0 ≤ frameAt q d) × (kf ≤ q .room) × Proven q w₂ (frameAt q d) kf
+            pub ask-remember : Remembers q (memory q w₂) × Keeping w₂ q (frameAt q d) kf × Proven q w₂ (frameAt q d) kf
             ask-remember = (
               inv .known,
-              record { tree = inv .tree; tab = f₂ },
-              frame-first q d,
-              pre .fits,
+              keeping w₂ (record { tree = inv .tree; tab = f₂ }),
               only (q .n) w₂ (frameAt q d) kf (inv .tree) f₂ (λ G. Harmless q G)
                   (ap (λ ts. allFit (q .room) (q .n) ts) (called-fuel (q .n + 1) (q .n + 1 - d) (q .n) (inv .tree) (inv .tab .deep) (omega (arith, needs-at)) (omega (arith, needs-at))) ∙ all-fit),
             )

@@ -12,18 +12,14 @@ use Rattle.rule.specs.Rule.{coreOf, restOf, markOf, solved, called, stepCalls, 
 use Rattle.rule.proofs.Needs.{need}
 use Rattle.frame.specs.declared.Size.{Size}
 use Rattle.frame.specs.Held.{part, Tab, Held, Lies}
+use Rattle.listing.specs.Listed.{clauseStride, clauseWords, capacity}
 use Rattle.dividing.specs.declared.Parts.{Parts}
 use Rattle.dividing.specs.Dividing.{place, coreAt, restAt, Inner}
+use Rattle.harmless.specs.Memory.{block, frameAt, memory, Harmless, Proven, Recalls, Remembers}
 use Rattle.solving.specs.declared.Solved.{Solved}
 use Rattle.solving.specs.declared.Solved.the-variants.{Done, Nodes}
 
--- ---- the layout: blocks of four places; n + 2 blocks of memory, then a frame for each depth, then the operations' memory
-abbrev pub block : Size → ℕ
-block q = 4 * stride * q .wide
-
-abbrev pub frameAt : Size → ℕ → ℕ
-frameAt q d = block q * (q .n + 2 + d)
-
+-- ---- the frame of the next depth
 abbrev pub nextAt : Size → ℕ → ℕ
 nextAt q f = f + 4 * place q
 
@@ -32,39 +28,12 @@ abbrev pub Same : Size → ℕ → List ℕ → List ℕ → Type 0
 Same q x w w′ = part (frameAt q 0) x w′ ≡ part (frameAt q 0) x w
 
 -- ---- the output: clauses are counted up to one more than there is place for, and written while they fit
-unfoldable pub clauseWords : List Clause → List ℕ
-clauseWords [] = []
-clauseWords (y ∷ ys) = y .fixed ∷ y .values ∷ clauseWords ys
-
-abbrev pub capacity : List ℕ → ℕ
-capacity out = length out / 2
-
 pub record Out (out : List ℕ) (k : ℕ) (ys : List Clause) : Type 0 where
   pub count : k ≡ min (length ys) (capacity out + 1)
-  pub words : length ys ≤ capacity out → take (2 * k) out ≡ clauseWords ys
+  pub words : length ys ≤ capacity out → take (clauseStride * k) out ≡ clauseWords ys
 
 abbrev pub Pushes : List ℕ → List ℕ → ℕ → Clause → ℕ → Type 0
 Pushes out out′ k y r = (ys : List Clause) → Out out k ys → Out out′ r (ys ++ (y ∷ []))
-
--- ---- harmless: the run of the function calls for nothing that is over room
-abbrev pub Harmless : Size → Tree → Type 0
-Harmless q f = allFit (q .room) (q .n) (called (q .n + 1) (q .n) f) ≡ true
-
-abbrev pub Proven : Size → List ℕ → ℕ → ℕ → Type 0
-Proven q w a k = (f : Tree) → Tab (q .n) w a k f → Harmless q f
-
-abbrev pub Recalls : Size → List ℕ → ℕ → ℕ → Bool → Type 0
-Recalls q w a k r = r ≡ true → Proven q w a k
-
--- the memory's words: in each of its slots a node count and place for its nodes; a function whose table is there is harmless
-abbrev pub slotAt : Size → ℕ → ℕ
-slotAt q i = i * (1 + place q)
-
-pub Remembers : Size → List ℕ → Type 0
-Remembers q h = (i : ℕ) (f : Tree) → (k : ℕ) → take 1 (drop (slotAt q i) h) ≡ k ∷ [] → k ≤ q .room → Tab (q .n) h (slotAt q i + 1) k f → Harmless q f
-
-abbrev pub memory : Size → List ℕ → List ℕ
-memory q w = take (frameAt q 0) w
 
 -- ---- the three parts of a function, in the order in which they are solved
 abbrev pub partOf : ℕ → Tree → ℕ → Tree

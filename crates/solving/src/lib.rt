@@ -7,9 +7,10 @@ ghost use lib.ListN.{length, take, drop};
 ghost use Rattle.refusal.specs.Limits.{maxMarks};
 ghost use Rattle.valuation.specs.Valuation.{clauseOf};
 ghost use Rattle.frame.specs.Held.{Held};
-ghost use Rattle.ops.specs.Operations.{Assumed};
 ghost use Rattle.dividing.specs.Dividing.{place};
-ghost use Rattle.solving.specs.Solving.{capacity, Pushes, frameAt, nextAt, memory, Remembers, Recalls, Proven, literalsOf, Loading, Loads, Ready, Same, Still, Solves};
+ghost use Rattle.listing.specs.Listed.{capacity};
+ghost use Rattle.harmless.specs.Memory.{frameAt, memory};
+ghost use Rattle.solving.specs.Solving.{Pushes, nextAt, literalsOf, Loading, Loads, Ready, Same, Still, Solves};
 use dividing::Divided;
 use dividing::Parts;
 use frame::Made;
@@ -40,21 +41,6 @@ pub fn push_clause(out: &mut [u64], k: usize, y: BddPartialValuation) -> usize
     k + 1
 }
 
-// Is the table at a one of those in the memory?
-fn recall(w: &[u32], q: Size, a: usize, k: u32) -> bool
-    requires { ⌜ Assumed × Remembers q (memory q (now w)) × Held (q .n) (now w) a k × (frameAt q 0 ≤ a) × (k ≤ q .room) ⌝ }
-    ensures { λ r. ⌜ Recalls q (now (w .entry)) a k r ⌝ }
-{
-    false
-}
-
-// Puts the table at a into the memory.
-fn remember(w: &mut [u32], q: Size, a: usize, k: u32)
-    requires { ⌜ Assumed × Remembers q (memory q (now w)) × Held (q .n) (now w) a k × (frameAt q 0 ≤ a) × (k ≤ q .room) × Proven q (now w) a k ⌝ }
-    ensures { λ _. ⌜ drop (frameAt q 0) (now (w .exit)) ≡ drop (frameAt q 0) (now (w .entry)) ⌝ }
-    ensures { λ _. ⌜ Remembers q (memory q (now (w .exit))) ⌝ }
-{}
-
 // The literals of part i: the core has those so far, then the mark is true, then false.
 fn literals(y: BddPartialValuation, m: BddVariable, i: usize) -> BddPartialValuation
     requires { ⌜ m .0 < maxMarks ⌝ }
@@ -68,7 +54,7 @@ fn literals(y: BddPartialValuation, m: BddVariable, i: usize) -> BddPartialValua
 
 // Part i into the next frame: the core, then what is left with the mark true, then false. A restriction is never over room.
 fn load_part(w: &mut [u32], q: Size, f: usize, p: Parts, i: usize) -> u32
-    requires { ⌜ Assumed × Loading (now w) q f p ⌝ }
+    requires { ⌜ Loading (now w) q f p ⌝ }
     ensures { λ _. ⌜ take (nextAt q f) (now (w .exit)) ≡ take (nextAt q f) (now (w .entry)) ⌝ }
     ensures { λ r. ⌜ Loads (now (w .entry)) (now (w .exit)) q f p i r ⌝ }
 {
@@ -78,7 +64,8 @@ fn load_part(w: &mut [u32], q: Size, f: usize, p: Parts, i: usize) -> u32
         frame::copy_in(w, q, f + place, p.core, next);
         return p.core;
     }
-    let Made::Count(k) = ops::fix_in(w, q, f + 2 * place, p.rest, p.mark.0, i == 1, next) else {
+    let Made::Count(k) = frame_carry::fix_in(w, q, f + 2 * place, p.rest, p.mark.0, i == 1, next)
+    else {
         return 1;
     };
     k
@@ -94,7 +81,7 @@ pub fn solve(
     y: BddPartialValuation,
     k: usize,
 ) -> Solved
-    requires { ⌜ Assumed × Ready (now w) (now out) q d kf k ⌝ }
+    requires { ⌜ Ready (now w) (now out) q d kf k ⌝ }
     ensures { λ _. ⌜ Same q (frameAt q d + place q) (now (w .entry)) (now (w .exit)) ⌝ }
     ensures { λ r. ⌜ Still q (memory q (now (w .exit))) r ⌝ }
     ensures { λ r. ⌜ Solves (now (w .entry)) (now (out .entry)) (now (out .exit)) q d kf (clauseOf y) k r ⌝ }
@@ -107,7 +94,7 @@ pub fn solve(
     }
     let f = 4 * NODE_WORDS * q.wide * (q.n as usize + 2 + d);
     if k > out.len() / 2 {
-        if recall(&*w, q, f, kf) {
+        if harmless::recall(&*w, q, f, kf) {
             return Solved::Done(k);
         }
     }
@@ -124,6 +111,6 @@ pub fn solve(
         done = more;
         i += 1;
     }
-    remember(w, q, f, kf);
+    harmless::remember(w, q, f, kf);
     Solved::Done(done)
 }

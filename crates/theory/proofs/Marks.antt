@@ -31,7 +31,7 @@ odd-digit x = elim (ℕ-discrete (x % 2) 1) [
 ]
 
 -- the number of marks, bit 0 apart
-number-low : (n x : ℕ) → length (marksOf (suc n) x) ≡ x % 2 + length (marksOf n (x / 2))
+pub number-low : (n x : ℕ) → length (marksOf (suc n) x) ≡ x % 2 + length (marksOf n (x / 2))
 unfolding marksOf bit
 number-low zero x = length-one (odd x) 0 ∙ odd-digit x ∙ (let e : x % 2 ≡ x % 2 + 0 = omega arith in e)
 number-low (suc n) x =

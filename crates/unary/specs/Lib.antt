@@ -1,2 +1,1 @@
 pub mod Unary
-pub mod Marked

@@ -1,5 +1,8 @@
 //! Ordered copies of tables that mean the same and are not reduced, and damage done to tables.
+use crate::convert::as_made;
+use crate::corpus::MOST_NODES;
 use crate::random::Random;
+use biodivine_lib_bdd::Bdd;
 
 /// A copy that is being made: its words, and for each node of the table the nodes of the copy that mean the same.
 struct Draft<'a> {
@@ -100,6 +103,16 @@ fn finish(mut copy: Draft, count: usize, nodes: &[u32], most: usize) -> Vec<u32>
         copy.double(root, [nodes[3 * count - 3], nodes[3 * count - 2], nodes[3 * count - 1]]);
     }
     copy.words
+}
+
+/// A table of the oracle's in forms that mean the same: as made, renumbered, and copies that are not reduced.
+pub fn forms(random: &mut Random, bdd: &Bdd) -> Vec<Vec<u32>> {
+    let (as_made, renumbered) = (as_made(bdd), bdd.renumbered());
+    let spare = MOST_NODES - bdd.size().max(2);
+    let mut copy = |from: &[u32], extra: usize| unreduced_copy(random, from, extra.min(spare));
+    let few = copy(&as_made, 4);
+    let many = copy(&renumbered, renumbered.len());
+    vec![as_made, renumbered, few, many]
 }
 
 /// A word for a place in a table: small, near what stands there or around it, or one that only looks right when cut.

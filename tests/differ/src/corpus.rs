@@ -171,6 +171,24 @@ pub fn large(random: &mut Random, many: usize) -> Vec<Built> {
     made
 }
 
+/// A reduced table of 60 marks with exactly as many nodes as a call takes; it does not depend on mark 0.
+pub fn greatest(random: &mut Random) -> Vec<u32> {
+    let (fixed, most) = ((1 << 16) - 1, MOST_NODES);
+    let tail = loop {
+        let cases = (0..5_700).map(|_| Valuation { fixed, values: random.word() & fixed }).collect();
+        match Built::new(16, Meaning::Dnf(cases)) {
+            Some(table) if table.bdd.size() > most - 44 => break as_made(&table.bdd),
+            _ => continue,
+        }
+    };
+    let mut words: Vec<u32> = tail.chunks(3).flat_map(|node| [node[0] + 44, node[1], node[2]]).collect();
+    // each mark more in front is one node more
+    for mark in (1..44).rev().take(most - tail.len() / 3) {
+        words.extend([mark, 0, words.len() as u32 / 3 - 1]);
+    }
+    words
+}
+
 /// Clauses whose literals lie close together, so that a table over many marks stays within a call's limits.
 pub fn windowed(random: &mut Random, n: u16, many: usize, literals: usize, window: u16) -> Vec<Valuation> {
     let shifted = |v: Valuation, by: usize| Valuation { fixed: v.fixed << by, values: v.values << by };

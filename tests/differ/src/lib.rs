@@ -1,23 +1,43 @@
 //! What the tests share: the proved library's calls, the specification read a second time, the oracle's answers in words, and the comparison.
 pub mod answer;
+pub mod building;
 pub mod convert;
 pub mod copies;
 pub mod corpus;
+pub mod covering;
 pub mod expected;
+pub mod expected_builders;
+pub mod expected_cover;
+pub mod expected_extractors;
 pub mod expected_operators;
+pub mod extracting;
 pub mod lent;
+pub mod lists;
 pub mod names;
 pub mod operation;
 pub mod proved;
+pub mod proved_builders;
+pub mod proved_cover;
+pub mod proved_extractors;
 pub mod proved_operators;
 pub mod proved_valuations;
 pub mod random;
 pub mod reading;
+pub mod reading_builders;
+pub mod reading_cover;
+pub mod reading_extractors;
 pub mod reading_operators;
+pub mod reading_sheet;
+pub mod reading_walk;
+pub mod run;
 pub mod sample;
 pub mod spoiled;
+pub mod spoiled_builds;
+pub mod spoiled_covers;
 pub mod tally;
+pub mod timing;
 pub mod truth;
+pub mod wrong;
 
 use std::path::PathBuf;
 

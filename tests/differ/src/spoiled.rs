@@ -42,7 +42,7 @@ impl Owned {
             0 => self.call.n = spoiled_n(random, self.call.n),
             1 => left_or_right.0 = spoiled_count(random, left_or_right.0),
             2 => cut(random, &mut left_or_right.1),
-            3 => self.call.space = spoiled_space(random, &self.call()),
+            3 => self.call.space = spoiled_space(random, self.call.space),
             4 => self.call.mark = spoiled_mark(random, self.call.n),
             5 => self.call.space.room = spoiled_room(random),
             _ => damage_words(random, &mut left_or_right.1),
@@ -50,18 +50,18 @@ impl Owned {
     }
 }
 
-fn spoiled_n(random: &mut Random, n: u16) -> u16 {
+pub fn spoiled_n(random: &mut Random, n: u16) -> u16 {
     random.pick(&[61, 62, 64, 255, 256, 65_535, n.saturating_add(1), n.saturating_sub(1), n | 256])
 }
 
-fn spoiled_count(random: &mut Random, count: usize) -> usize {
+pub fn spoiled_count(random: &mut Random, count: usize) -> usize {
     match random.coin() {
         true => random.pick(&[count.saturating_add(1), count.saturating_add(2), count.saturating_sub(1), 1, 2]),
         false => random.pick(&OUTSIDE),
     }
 }
 
-fn spoiled_room(random: &mut Random) -> usize {
+pub fn spoiled_room(random: &mut Random) -> usize {
     match random.coin() {
         true => random.pick(&[0, 1, 2]),
         false => random.pick(&OUTSIDE),
@@ -73,19 +73,23 @@ fn spoiled_mark(random: &mut Random, n: u16) -> u16 {
     random.pick(&[n, n.saturating_add(1), 59, 60, 61, 255, 256, 32_768, 65_535])
 }
 
-fn cut(random: &mut Random, words: &mut Vec<u32>) {
+pub fn cut<T>(random: &mut Random, words: &mut Vec<T>) {
     let short_by = if random.coin() { 1 } else { 1 + random.below(words.len() + 1) };
     words.truncate(words.len().saturating_sub(short_by));
 }
 
-/// Output or work too short by a word, by some, or with none at all.
-fn spoiled_space(random: &mut Random, call: &Operation) -> Space {
-    let Space { room, out, work } = call.space;
-    let shorter = |random: &mut Random, needed: usize| match random.below(3) {
+/// Short of what is needed by a word, by some, or by all.
+pub fn shorter(random: &mut Random, needed: usize) -> usize {
+    match random.below(3) {
         0 => needed.saturating_sub(1),
         1 => random.below(needed + 1),
         _ => 0,
-    };
+    }
+}
+
+/// Output or work too short.
+pub fn spoiled_space(random: &mut Random, space: Space) -> Space {
+    let Space { room, out, work } = space;
     if random.coin() {
         Space { room, out: shorter(random, out.min(room.saturating_mul(3))), work }
     } else {
@@ -93,7 +97,7 @@ fn spoiled_space(random: &mut Random, call: &Operation) -> Space {
     }
 }
 
-fn damage_words(random: &mut Random, words: &mut [u32]) {
+pub fn damage_words(random: &mut Random, words: &mut [u32]) {
     for _ in 0..if words.is_empty() { 0 } else { 1 + random.below(2) } {
         let at = random.below(words.len());
         words[at] = damage(random, words, at);

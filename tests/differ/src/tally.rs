@@ -1,5 +1,5 @@
 //! Counts the calls of each entry and its refusals, and objects where a refusal that an entry can give was never seen.
-use crate::answer::{compare, Answer, Outcome, CLAUSE, LEAST_REPLY, LIMIT, NODES, SHORT, TABLE, VARIABLE};
+use crate::answer::{compare, Answer, Outcome, CLAUSE, CLAUSES, LEAST_REPLY, LIMIT, NODES, REDUCED, SHEET, SHORT, TABLE, VARIABLE};
 use crate::proved::Room;
 use std::collections::{BTreeMap, BTreeSet};
 
@@ -64,6 +64,34 @@ pub const OPERATORS: [Entry; 9] = [
     entry("support_set", MEASURING, &[0, 1, 1 << 59, (1 << 60) - 1]),
     entry("exact_cardinality", MEASURING, &[0, 1, (1 << 60) - 1, 1 << 60]),
 ];
+
+/// The builders; the sample does not show them.
+pub const BUILDERS: [Entry; 4] = [
+    entry("mk_dnf", &[LIMIT, SHORT, CLAUSE, NODES], SIZES),
+    entry("mk_cnf", &[LIMIT, SHORT, CLAUSE, NODES], SIZES),
+    entry("mk_dnf_valuation", &[LIMIT, SHORT, VARIABLE, NODES], SIZES),
+    entry("mk_cnf_valuation", &[LIMIT, SHORT, VARIABLE, NODES], SIZES),
+];
+
+/// The cover check; the sample does not show it.
+pub const COVER: [Entry; 1] = [entry("check_cover", &[LIMIT, SHORT, CLAUSE, TABLE, NODES], EITHER)];
+
+/// The extractors; the sample does not show them.
+pub const EXTRACTORS: [Entry; 2] = [
+    entry("to_dnf", &[LIMIT, SHORT, TABLE, CLAUSES], &[0, 1, 2, 1024]),
+    entry("to_cnf", &[LIMIT, SHORT, TABLE, CLAUSES], &[0, 1, 2, 1024]),
+];
+
+/// The walk, as far as it crosses the boundary; the sample does not show it.
+pub const WALK: [Entry; 2] = [entry("walk_check", &[LIMIT, SHORT, TABLE, REDUCED], &[0, 1, 2, 4095]), entry("kth_step", &[], EITHER)];
+
+/// The sheet reader: lists with either polarity, and tables; the sample does not show it.
+pub const READER: [Entry; 1] = [entry("read_sheet", &[LIMIT, SHORT, CLAUSE, TABLE, CLAUSES, SHEET], &[1, 2, 3])];
+
+/// Every entry that a run may call, family by family.
+pub fn families() -> impl Iterator<Item = &'static [Entry]> {
+    [&ENTRIES[..], &OPERATORS, &BUILDERS, &COVER, &EXTRACTORS, &WALK, &READER].into_iter()
+}
 
 /// How many first values of an entry are remembered.
 const REMEMBERED: usize = 5000;
@@ -193,7 +221,7 @@ impl Tally {
             return Err(format!("{} calls were made, at least {least} are wanted", self.calls()));
         }
         for (name, count) in &self.entries {
-            let entry = ENTRIES.iter().chain(&OPERATORS).find(|entry| entry.name == *name).ok_or(format!("{name} is no entry"))?;
+            let entry = families().flatten().find(|entry| entry.name == *name).ok_or(format!("{name} is no entry"))?;
             count.complete(entry).map_err(|what| format!("{name} {what}"))?;
         }
         Ok(())

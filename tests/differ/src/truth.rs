@@ -26,7 +26,8 @@ impl Function {
         self.answers >> case & 1 == 1
     }
 
-    fn from_cases(n: u16, says: impl Fn(u64) -> bool) -> Function {
+    /// The function with these answers, case by case.
+    pub fn from_cases(n: u16, says: impl Fn(u64) -> bool) -> Function {
         Function { n, answers: (0..1 << n).fold(0, |answers, case| answers | u64::from(says(case)) << case) }
     }
 

@@ -1,9 +1,8 @@
 //! The nine operators against truth tables and against the oracle, and their refusals against the specification's words.
 use biodivine_lib_bdd::Bdd;
-use differ::answer::{compare, compare_unserved, Answer, Outcome, LEAST_REPLY, LIMIT, NODES, SHORT, TABLE, VARIABLE};
-use differ::convert::as_made;
-use differ::copies::unreduced_copy;
-use differ::corpus::{built, unreduced, windowed, Built, Meaning, Sum, MOST_NODES};
+use differ::answer::{compare, compare_unserved, Answer, LEAST_REPLY, LIMIT, NODES, SHORT, TABLE, VARIABLE};
+use differ::copies::{forms, unreduced_copy};
+use differ::corpus::{built, greatest, unreduced, windowed, Built, Meaning, Sum, MOST_NODES};
 use differ::expected_operators::{found, found_for};
 use differ::operation::{Operation, Operator, Space, Table};
 use differ::proved::Room;
@@ -11,52 +10,23 @@ use differ::proved_operators::call;
 use differ::random::Random;
 use differ::reading::{first_unordered, says, Valuation};
 use differ::reading_operators::{answer, Found};
+use differ::run::{Run, Shares};
 use differ::spoiled::Owned;
-use differ::tally::{Tally, OPERATORS};
 use differ::truth::Function;
+use differ::wrong::objects_to_alterations;
 
 /// What the run against the oracle must reach.
-const LEAST_CALLS: u64 = 1_000_000;
-const LEAST_LARGE: u64 = 20_000;
-const LEAST_REFUSED: u64 = 50_000;
+const SHARES: Shares = Shares { calls: 1_000_000, large: 20_000, refused: 50_000, entries: 9 };
 
 /// A large call: so many marks, and so many nodes in an operand or in the result.
 const MANY_MARKS: u16 = 30;
 const MANY_NODES: usize = 500;
 
-/// The calls of one test, and how many of them were large.
-#[derive(Default)]
-struct Run {
-    tally: Tally,
-    large: u64,
-}
-
-impl Run {
-    fn judge(&mut self, operation: &Operation, found: impl FnOnce() -> Found) -> Answer {
-        let want = answer(operation, found);
-        let got = call(self.tally.room(), operation);
-        self.large += u64::from(is_large(operation, &want));
-        self.tally.judge(operation.operator.name(), &want, &got, || format!("{operation:?}"));
-        want
-    }
-
-    fn absorb(&mut self, other: Run) {
-        self.large += other.large;
-        self.tally.absorb(other.tally);
-    }
-
-    /// Every operator was called enough, and in every way that counts.
-    fn enough(&self) -> Result<(), String> {
-        self.tally.complete(LEAST_CALLS)?;
-        for (what, seen, least) in
-            [("large", self.large, LEAST_LARGE), ("refused", self.tally.refused(), LEAST_REFUSED), ("entries", self.tally.entries(), 9)]
-        {
-            if seen < least {
-                return Err(format!("{what}: {seen}, at least {least} are wanted"));
-            }
-        }
-        Ok(())
-    }
+fn judge(run: &mut Run, operation: &Operation, found: impl FnOnce() -> Found) -> Answer {
+    let want = answer(operation, found);
+    let got = call(run.tally.room(), operation);
+    run.judge(operation.operator.name(), &want, &got, is_large(operation, &want), || format!("{operation:?}"));
+    want
 }
 
 /// Only calls that got past inspection count.
@@ -94,7 +64,7 @@ impl Small {
 fn every_room(run: &mut Run, operation: Operation, found: &Found) {
     let most = if operation.operator.makes_table() { found.size().max(2) + 1 } else { 2 };
     for room in 2..=most {
-        run.judge(&operation.with_space(room, room % 3), || found.clone());
+        judge(run, &operation.with_space(room, room % 3), || found.clone());
     }
 }
 
@@ -105,7 +75,7 @@ fn check_functions(run: &mut Run, operator: Operator, a: &Small, b: &Small, mark
     let trees = operation(operator, n, &a.tree, &b.tree, mark, value);
     // with room for the whole tree too: it must be reduced all the same
     for room in [found.size().saturating_sub(1), found.size(), a.tree.len() / 3] {
-        run.judge(&trees.with_space(room.max(2), 0), || found.clone());
+        judge(run, &trees.with_space(room.max(2), 0), || found.clone());
     }
 }
 
@@ -143,7 +113,7 @@ fn functions_of_up_to_six_marks() {
     let function = |random: &mut Random, n: u16| {
         let (even, sparse) = (random.word(), random.word() & random.word() & random.word());
         let few_marks = 0x0101_0101_0101_0101 * (even & 255);
-        Small::new(Function::cut(n, random.pick(&[even, sparse, !sparse, few_marks, even & 0xffff * 0x0001_0001_0001_0001])))
+        Small::new(Function::cut(n, random.pick(&[even, sparse, !sparse, few_marks, 0x0001_0001_0001_0001 * (even & 0xffff)])))
     };
     for round in 0..6_000 {
         let n = 4 + round % 3;
@@ -166,12 +136,7 @@ struct Operand {
 
 impl Operand {
     fn new(random: &mut Random, built: Built) -> Operand {
-        let [as_made, renumbered] = built.tables();
-        let spare = MOST_NODES - built.bdd.size().max(2);
-        let mut copy = |from: &[u32], extra: usize| unreduced_copy(random, from, extra.min(spare));
-        let few = copy(&as_made, 4);
-        let many = copy(&renumbered, renumbered.len());
-        Operand { n: built.n, forms: vec![as_made, renumbered, few, many], bdd: built.bdd, meaning: built.meaning }
+        Operand { n: built.n, forms: forms(random, &built.bdd), bdd: built.bdd, meaning: built.meaning }
     }
 
     fn form(&self, random: &mut Random) -> &[u32] {
@@ -246,7 +211,7 @@ fn check_operands(run: &mut Run, random: &mut Random, operator: Operator, a: &Op
         for room in rooms(random, operator, found.size()) {
             for _ in 0..forms {
                 let good = operation(operator, a.n, a.form(random), b.form(random), mark, value).with_space(room, random.below(9));
-                run.judge(&good, || found.clone());
+                judge(run, &good, || found.clone());
                 if random.once_in(5) {
                     check_spoiled(run, random, &good);
                 }
@@ -259,7 +224,7 @@ fn check_operands(run: &mut Run, random: &mut Random, operator: Operator, a: &Op
 fn check_spoiled(run: &mut Run, random: &mut Random, good: &Operation) {
     let mut spoiled = Owned::new(good);
     spoiled.spoil(random);
-    run.judge(&spoiled.call(), || found_for(&spoiled.call()));
+    judge(run, &spoiled.call(), || found_for(&spoiled.call()));
 }
 
 /// Random tables of each number of marks, in pairs.
@@ -347,24 +312,6 @@ fn corners(run: &mut Run, random: &mut Random) {
     }
 }
 
-/// A reduced table of 60 marks with exactly as many nodes as a call takes; it does not depend on mark 0.
-fn greatest(random: &mut Random) -> Vec<u32> {
-    let (fixed, most) = ((1 << 16) - 1, MOST_NODES);
-    let tail = loop {
-        let cases = (0..5_700).map(|_| Valuation { fixed, values: random.word() & fixed }).collect();
-        match Built::new(16, Meaning::Dnf(cases)) {
-            Some(table) if table.bdd.size() > most - 44 => break as_made(&table.bdd),
-            _ => continue,
-        }
-    };
-    let mut words: Vec<u32> = tail.chunks(3).flat_map(|node| [node[0] + 44, node[1], node[2]]).collect();
-    // each mark more in front is one node more
-    for mark in (1..44).rev().take(most - tail.len() / 3) {
-        words.extend([mark, 0, words.len() as u32 / 3 - 1]);
-    }
-    words
-}
-
 /// Tables of the greatest size in and out, with the greatest room and with one node less.
 fn greatest_tables(run: &mut Run, random: &mut Random) {
     let words = greatest(random);
@@ -376,7 +323,7 @@ fn greatest_tables(run: &mut Run, random: &mut Random) {
         let found = found_for(&call);
         assert!(found.size() == if operator.makes_table() { MOST_NODES } else { 0 });
         for room in [MOST_NODES, MOST_NODES - 1, 2] {
-            run.judge(&call.with_space(room, 1), || found.clone());
+            judge(run, &call.with_space(room, 1), || found.clone());
         }
     }
     for n in [1, 12, 30, 60] {
@@ -386,7 +333,7 @@ fn greatest_tables(run: &mut Run, random: &mut Random) {
                 let call = operation(operator, n, left, right, n - 1, 0);
                 let found = found_for(&call);
                 for room in rooms(random, operator, found.size()) {
-                    run.judge(&call.with_space(room, 0), || found.clone());
+                    judge(run, &call.with_space(room, 0), || found.clone());
                 }
             }
         }
@@ -418,7 +365,7 @@ fn check_limit(run: &mut Run, random: &mut Random, operator: Operator, n: u16, w
     let space = Space { room, out: out.saturating_sub(short[0]), work: work - short[1] };
     let mark = random.pick(&[0, n.saturating_sub(1), n]);
     let call = Operation { operator, n, left, right, mark, value: 1, space };
-    run.judge(&call, || found_for(&call));
+    judge(run, &call, || found_for(&call));
 }
 
 fn small_run() -> Run {
@@ -441,10 +388,7 @@ fn operators_are_the_oracles() {
     let other = std::thread::spawn(small_run);
     let mut run = large_run();
     run.absorb(other.join().expect("a call of the other half differs"));
-    println!("calls with {MANY_MARKS} or more marks and {MANY_NODES} or more nodes: {}", run.large);
-    println!("calls of operators: {}, refused: {}", run.tally.calls(), run.tally.refused());
-    run.tally.print();
-    assert_eq!(run.enough(), Ok(()));
+    run.finish("operators", SHARES);
 }
 
 // ---- order of refusals, replies ----
@@ -503,7 +447,7 @@ fn the_lowest_number_is_answered() {
     for wrong in Wrong::all() {
         for operator in Operator::ALL {
             let owned = wrong.call(operator);
-            let want = run.judge(&owned.call(), || found_for(&owned.call()));
+            let want = judge(&mut run, &owned.call(), || found_for(&owned.call()));
             let reply = want.reply();
             assert_eq!((reply[0], reply[1]), wrong.refusal(operator), "{operator:?} {wrong:?}");
         }
@@ -554,48 +498,6 @@ fn short_replies_to_operators() {
 
 // ---- the tests' own parts ----
 
-/// The outcome with each word altered in turn: of the reply, of each buffer, and past their ends.
-fn alterations(right: &Outcome) -> Vec<Outcome> {
-    let mut wrong: Vec<Outcome> = [0, 2].map(|returned| Outcome { returned, ..right.clone() }).to_vec();
-    for i in 0..right.reply.len() + 2 {
-        let mut altered = right.clone();
-        altered.reply.disturb(i);
-        wrong.push(altered);
-    }
-    for (k, buffer) in right.lent.iter().enumerate() {
-        for i in 0..buffer.len() + 2 {
-            let mut altered = right.clone();
-            altered.lent[k].disturb(i);
-            wrong.push(altered);
-        }
-    }
-    wrong
-}
-
-/// Other answers than the one wanted: another number or place, another count, another word of the table, a word more.
-fn other_answers(want: &Answer) -> Vec<Answer> {
-    match want {
-        Answer::Refused { number, place } => {
-            let others = [(number + 1, *place), (number - 1, *place), (*number, place + 1), (NODES, 0), (TABLE, 0), (0, 0)];
-            let different = others.into_iter().filter(|other| *other != (*number, *place));
-            different.map(|(number, place)| Answer::refused(number, place)).collect()
-        }
-        Answer::Given { values, outs } => {
-            let mut others = vec![Answer::refused(NODES, 0), Answer::refused(TABLE, 2)];
-            others.extend([values[0] + 1, values[0] - 1].map(|value| Answer::Given { values: vec![value], outs: outs.clone() }));
-            for i in 0..outs[0].len() {
-                let mut altered = outs.clone();
-                altered[0][i] ^= 1;
-                others.push(Answer::Given { values: values.clone(), outs: altered });
-            }
-            let mut longer = outs.clone();
-            longer[0].push(1);
-            others.push(Answer::Given { values: values.clone(), outs: longer });
-            others
-        }
-    }
-}
-
 #[test]
 fn every_altered_answer_is_objected_to() {
     let mut seen = [0; 10];
@@ -604,53 +506,11 @@ fn every_altered_answer_is_objected_to() {
             let owned = wrong.call(operator);
             let want = answer(&owned.call(), || found_for(&owned.call()));
             let got = call(Room { words: 64, salt: 5 }, &owned.call());
-            let judged = |want: &Answer, got: &Outcome| Tally::new().verdict(operator.name(), want, got);
-            assert_eq!(judged(&want, &got), Ok(()));
-            assert!(alterations(&got).iter().all(|altered| judged(&want, altered).is_err()), "{operator:?} {wrong:?}");
-            assert!(other_answers(&want).iter().all(|other| judged(other, &got).is_err()), "{operator:?} {wrong:?}");
+            assert_eq!(objects_to_alterations(operator.name(), &want, &got), Ok(()), "{wrong:?}");
             seen[want.reply()[0] as usize] += 1;
         }
     }
     assert!([0, LIMIT, SHORT, VARIABLE, TABLE, NODES].iter().all(|number| seen[*number as usize] > 0), "{seen:?}");
-}
-
-/// A tally that has seen everything that the operators can show, but for one refusal or one first value, is not complete.
-#[test]
-fn a_missing_refusal_is_objected_to() {
-    for entry in &OPERATORS {
-        let answers: Vec<Answer> = entry.refusals.iter().map(|number| Answer::refused(*number, 0)).chain(entry.firsts()).collect();
-        let tally_without = |missing: usize| {
-            let mut tally = Tally::new();
-            for (_, answer) in answers.iter().enumerate().filter(|(k, _)| *k != missing) {
-                tally.count(entry.name, answer);
-            }
-            tally
-        };
-        assert_eq!(tally_without(answers.len()).complete(0), Ok(()));
-        for missing in 0..answers.len() {
-            assert!(tally_without(missing).complete(0).is_err(), "{} without {:?}", entry.name, answers[missing]);
-        }
-    }
-}
-
-/// A run with all kinds of answers and enough calls still needs its shares, and every operator.
-#[test]
-fn missing_shares_are_objected_to() {
-    let run_of = |calls: u64, refused: u64, large: u64, entries: &[differ::tally::Entry]| {
-        let mut run = Run { large, ..Run::default() };
-        for entry in entries {
-            entry.refusals.iter().for_each(|number| run.tally.count(entry.name, &Answer::refused(*number, 0)));
-            entry.firsts().for_each(|answer| run.tally.count(entry.name, &answer));
-        }
-        (0..refused).for_each(|_| run.tally.count("not", &Answer::refused(NODES, 0)));
-        (0..calls - refused).for_each(|_| run.tally.count("not", &Answer::given(vec![2])));
-        run
-    };
-    assert_eq!(run_of(LEAST_CALLS, LEAST_REFUSED, LEAST_LARGE, &OPERATORS).enough(), Ok(()));
-    assert!(run_of(LEAST_CALLS - 100, LEAST_REFUSED, LEAST_LARGE, &OPERATORS).enough().is_err());
-    assert!(run_of(LEAST_CALLS, LEAST_REFUSED - 100, LEAST_LARGE, &OPERATORS).enough().is_err());
-    assert!(run_of(LEAST_CALLS, LEAST_REFUSED, LEAST_LARGE - 1, &OPERATORS).enough().is_err());
-    assert!(run_of(LEAST_CALLS, LEAST_REFUSED, LEAST_LARGE, &OPERATORS[..8]).enough().is_err());
 }
 
 /// The specification's own tables come out of their truth tables.

@@ -2,7 +2,9 @@
 use differ::answer::{compare, compare_unserved, Answer, Outcome, CLAUSES, LIMIT, NODES, SHEET, SHORT, TABLE, VARIABLE};
 use differ::lent::{Buffer, Lent};
 use differ::proved::{inspect, Room};
-use differ::tally::Tally;
+use differ::run::{Run, Shares};
+use differ::tally::{families, Entry, Tally};
+use differ::wrong::alterations;
 
 /// A buffer as a call would leave it that wrote these words and then zeros.
 fn written<T: differ::lent::Word>(len: usize, begin: &[u64]) -> Lent<T> {
@@ -29,27 +31,6 @@ fn refused(number: u64, place: u64) -> (Answer, Outcome) {
         false => vec![Buffer::Narrow(Lent::new(12, 5)), Buffer::Wide(Lent::new(5, 6))],
     };
     (Answer::refused(number, place), Outcome { returned: 1, reply: written(64, &[number, place]), lent })
-}
-
-/// Every single word that a call could get wrong, in turn: those of the reply and of each buffer, and those past their ends.
-fn alterations(right: &Outcome) -> Vec<Outcome> {
-    let mut wrong = Vec::new();
-    for returned in [0, 2, u64::MAX] {
-        wrong.push(Outcome { returned, ..right.clone() });
-    }
-    for i in 0..right.reply.len() + 2 {
-        let mut altered = right.clone();
-        altered.reply.disturb(i);
-        wrong.push(altered);
-    }
-    for (k, buffer) in right.lent.iter().enumerate() {
-        for i in 0..buffer.len() + 2 {
-            let mut altered = right.clone();
-            altered.lent[k].disturb(i);
-            wrong.push(altered);
-        }
-    }
-    wrong
 }
 
 #[test]
@@ -150,4 +131,59 @@ fn an_answer_never_seen_is_objected_to() {
     let strange = [&all[..], &[Answer::refused(NODES, 0)]].concat();
     assert!(tally_of("eval_in", &strange).complete(0).is_err(), "a number that evaluation never gives");
     assert!(tally_of("evaluation", &all).complete(0).is_err(), "no such entry");
+}
+
+/// Everything that an entry can show.
+fn shown(entry: &Entry) -> Vec<Answer> {
+    entry.refusals.iter().map(|number| Answer::refused(*number, 0)).chain(entry.firsts()).collect()
+}
+
+/// A tally that has seen everything that an entry can show, but for one refusal or one first value, is not complete.
+#[test]
+fn a_missing_refusal_is_objected_to() {
+    // an entry with one answer and no refusal is complete, or it was not called
+    for entry in families().flatten().filter(|entry| !entry.refusals.is_empty()) {
+        let answers = shown(entry);
+        let tally_without = |missing: usize| {
+            let mut tally = Tally::new();
+            for (_, answer) in answers.iter().enumerate().filter(|(k, _)| *k != missing) {
+                tally.count(entry.name, answer);
+            }
+            tally
+        };
+        assert_eq!(tally_without(answers.len()).complete(0), Ok(()));
+        for (missing, answer) in answers.iter().enumerate() {
+            assert!(tally_without(missing).complete(0).is_err(), "{} without {answer:?}", entry.name);
+        }
+    }
+}
+
+/// A run that shows everything about these entries, with so many calls, refused ones and large ones.
+fn run_of(entries: &[Entry], calls: u64, refused: u64, large: u64) -> Run {
+    let mut run = Run { large, ..Run::default() };
+    for entry in entries {
+        shown(entry).iter().for_each(|answer| run.tally.count(entry.name, answer));
+    }
+    let (name, number) = (entries[0].name, entries[0].refusals[0]);
+    while run.tally.refused() < refused {
+        run.tally.count(name, &Answer::refused(number, 0));
+    }
+    while run.tally.calls() < calls {
+        run.tally.count(name, &Answer::given(vec![2]));
+    }
+    run
+}
+
+/// A run with all kinds of answers and enough calls still needs its shares, and every entry.
+#[test]
+fn missing_shares_are_objected_to() {
+    for entries in families().filter(|entries| entries.len() > 1) {
+        let many = entries.len() as u64;
+        let shares = Shares { calls: 10_000, large: 200, refused: 1000, entries: many };
+        assert_eq!(run_of(entries, 10_000, 1000, 200).enough(shares), Ok(()));
+        assert!(run_of(entries, 9_999, 1000, 200).enough(shares).is_err());
+        assert!(run_of(entries, 10_000, 999, 200).enough(shares).is_err());
+        assert!(run_of(entries, 10_000, 1000, 199).enough(shares).is_err());
+        assert!(run_of(&entries[..entries.len() - 1], 10_000, 1000, 200).enough(shares).is_err());
+    }
 }

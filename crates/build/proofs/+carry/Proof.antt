@@ -3,7 +3,7 @@ use Prim.Native.Nat.{_-_, _+_, _*_, _≤_}
 use native.Mathlib.Omega.{arith}
 use lib.ListN.{getD}
 use Prim.Native.Nat.{_/_}
-use Rattle.put.specs.Put.{Recalls}
+use Rattle.put.specs.Put.{memoBase, Recalls}
 use Rattle.pool.specs.Pool.{Holds, Answers, pushed}
 use Rattle.build.specs.Build.{Carried, Carries}
 use Rattle.build.proofs.CarryLaws.{mark-small, carry-end, carry-memo, x-lt, y-lt, carrying-lo, full-lo, carrying-hi, full-hi, pushing, full-node, slot-in, e-small, done}
@@ -39,7 +39,7 @@ module _ (t : ℕ) where
   two : (c : carry-lts.After-high-link-of (told t) (at t) carry.Post) → 2 ≤ c .before .before .before .before .before .before .before .before .before .before .before .before .before .before .args .p .0
   two c = omega (arith, c .before .before .before .before .before .before .before .before .before .before .if1 .left)
 
-  unknown : (c : carry-lts.After-high-link-of (told t) (at t) carry.Post) → getD (c .before .before .before .before .before .before .before .before .before .before .before .before .before .before .args .work .now) (3 * c .before .before .before .before .before .before .before .before .before .before .before .before .before .before .args .goal .cap + c .before .before .before .before .before .before .before .before .before .before .before .before .before .before .args .p .0) 0 / 16384 ≡ c .before .before .before .before .before .before .before .before .before .before .before .before .before .before .args .goal .stamp → ⊥
+  unknown : (c : carry-lts.After-high-link-of (told t) (at t) carry.Post) → getD (c .before .before .before .before .before .before .before .before .before .before .before .before .before .before .args .work .now) (3 * c .before .before .before .before .before .before .before .before .before .before .before .before .before .before .args .goal .cap + c .before .before .before .before .before .before .before .before .before .before .before .before .before .before .args .p .0) 0 / memoBase ≡ c .before .before .before .before .before .before .before .before .before .before .before .before .before .before .args .goal .stamp → ⊥
   unknown c = subst (λ z. Recalls (getD (c .before .before .before .before .before .before .before .before .before .before .before .before .before .before .args .work .now) (3 * c .before .before .before .before .before .before .before .before .before .before .before .before .before .before .args .goal .cap + c .before .before .before .before .before .before .before .before .before .before .before .before .before .before .args .p .0) 0) (c .before .before .before .before .before .before .before .before .before .before .before .before .before .before .args .goal .stamp) z) (c .before .before .before .before .before .before .enum-told .given .1) (c .before .before .before .before .before .before .before .before .recall .ensures)
 
   low-is : (c : carry-lts.After-known-told2 (told t) (at t) carry.Post) → Carried (c .before .before .before .before .before .before .before .before .before .before .before .before .before .before .before .before .before .before .before .before .before .before .before .before .args .work .now) (c .before .before .before .before .before .before .before .carry .last .0) (c .before .before .before .before .before .before .before .before .before .before .before .before .before .before .before .before .before .before .before .before .before .before .before .before .args .out .now) (c .before .before .before .before .before .before .before .carry .last .1 .0) (c .before .before .before .before .before .before .before .before .before .before .before .before .before .before .before .before .before .before .before .before .before .before .before .before .args .goal) (c .before .before .before .before .before .before .before .before .before .before .before .before .before .before .before .before .before .before .before .before .before .before .before .before .args .count) (c .before .before .before .before .before .before .before .before .before .before .before .before .before .before .before .before .before .before .before .before .before .before .before .before .args .made) (c .before .before .before .before .before .before .before .before .before .before .before .before .low-link-of .result .0) (c .before .lo .given .0 .0 .0) (c .before .lo .given .0 .1 .0)

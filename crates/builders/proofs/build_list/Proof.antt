@@ -1,6 +1,7 @@
 use native.Mathlib.Omega.{arith}
 use Rattle.cube.specs.Cube.{entryAt}
-use Rattle.builders.proofs.BuilderLaws.{leaves, leaves-settling, built-outcome}
+use Rattle.making.proofs.MakesLaws.{leaves-settling}
+use Rattle.builders.proofs.BuilderLaws.{leaves, built-outcome}
 use borrow.Author.Needs.{needs}
 use Rattle.builders.proofs.build_list.Statement.{statement}
 use Rattle.builders.proofs.build_list.Tie as tie

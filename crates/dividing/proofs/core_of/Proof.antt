@@ -33,21 +33,21 @@ add-false-in c = search needs
 false-in-requires : tie.Need-false-in-requires Inv-loop μ-loop
 false-in-requires c κs =
     let start = c .before .before .before in
-    omega (arith, start .pre .1 .lies .below, start .pre .1 .lies .mem, start .pre .1 .lies .some, start .pre .1 .lies .room)
+    omega (arith, start .pre .0 .lies .below, start .pre .0 .lies .mem, start .pre .0 .lies .some, start .pre .0 .lies .room)
 
 -- src/lib.rt:69:5
 loop-holds : tie.Need-loop-holds Inv-loop μ-loop
 loop-holds c =
     let at-false-in = c .before .before in
     let start = at-false-in .before .before .before .before in
-    core-start _ _ _ _ _ (start .pre .1) (start .pre .2) _ (at-false-in .false-in .kept .0) (at-false-in .false-in .ensures .0) (at-false-in .false-in .ensures .1)
+    core-start _ _ _ _ _ (start .pre .0) (start .pre .1) _ (at-false-in .false-in .kept .0) (at-false-in .false-in .ensures .0) (at-false-in .false-in .ensures .1)
 
 -- src/lib.rt:70:29
 cast-t19 : tie.Need-cast-t19 Inv-loop μ-loop
 cast-t19 c =
     let at-loop = c .before in
     let start = at-loop .before .before .before .before .before .before .before in
-    record { fits = omega (arith, next-mark _ _ (start .pre .1 .lies .marks) (at-loop .loop .inv .small) (c .loop-test .taken) .less, start .pre .1 .lies .marks) }
+    record { fits = omega (arith, next-mark _ _ (start .pre .0 .lies .marks) (at-loop .loop .inv .small) (c .loop-test .taken) .less, start .pre .0 .lies .marks) }
 
 -- src/lib.rt:71:33
 core-step-requires : tie.Need-core-step-requires Inv-loop μ-loop
@@ -56,8 +56,8 @@ core-step-requires c κs =
     let at-loop = at-loop-test .before in
     let at-false-in = at-loop .before .before .before in
     let start = at-false-in .before .before .before .before in
-    let a = ask-step _ _ _ _ _ (start .pre .1) (start .pre .2) _ (at-false-in .false-in .kept .0) (at-false-in .false-in .ensures .0) _ _ _ _ (at-loop-test .loop-test .taken) (at-loop .loop .inv) in
-    (start .pre .0, a .0, a .1, next-mark _ _ (start .pre .1 .lies .marks) (at-loop .loop .inv .small) (at-loop-test .loop-test .taken) .less)
+    let a = ask-step _ _ _ _ _ (start .pre .0) (start .pre .1) _ (at-false-in .false-in .kept .0) (at-false-in .false-in .ensures .0) _ _ _ _ (at-loop-test .loop-test .taken) (at-loop .loop .inv) in
+    (a .0, a .1, next-mark _ _ (start .pre .0 .lies .marks) (at-loop .loop .inv .small) (at-loop-test .loop-test .taken) .less)
 
 -- src/lib.rt:71:25
 enum-known-k : tie.Need-enum-known-k Inv-loop μ-loop
@@ -83,7 +83,7 @@ returns c =
     let at-loop = at-loop-test .before in
     let at-false-in = at-loop .before .before .before in
     let start = at-false-in .before .before .before .before in
-    core-over _ _ _ _ _ (start .pre .1) (start .pre .2) _ (at-false-in .false-in .kept .0) (at-false-in .false-in .ensures .0) _ _ _ _ (at-loop-test .loop-test .taken) (at-loop .loop .inv) _ (next-mark _ _ (start .pre .1 .lies .marks) (at-loop .loop .inv .small) (at-loop-test .loop-test .taken))
+    core-over _ _ _ _ _ (start .pre .0) (start .pre .1) _ (at-false-in .false-in .kept .0) (at-false-in .false-in .ensures .0) _ _ _ _ (at-loop-test .loop-test .taken) (at-loop .loop .inv) _ (next-mark _ _ (start .pre .0 .lies .marks) (at-loop .loop .inv .small) (at-loop-test .loop-test .taken))
     _ (at-core-step .core-step .ensures .0) (at-core-step .core-step .kept .0) _ (at-core-step .core-step .ensures .1) (c .enum-told .given .1)
 
 -- src/lib.rt:76:9
@@ -92,7 +92,7 @@ set-bit-requires c κs =
     let at-loop-test = c .before .before .before .before .before .before .before in
     let at-loop = at-loop-test .before in
     let start = at-loop .before .before .before .before .before .before .before in
-    omega (arith, next-mark _ _ (start .pre .1 .lies .marks) (at-loop .loop .inv .small) (at-loop-test .loop-test .taken) .less, start .pre .1 .lies .marks)
+    omega (arith, next-mark _ _ (start .pre .0 .lies .marks) (at-loop .loop .inv .small) (at-loop-test .loop-test .taken) .less, start .pre .0 .lies .marks)
 
 -- src/lib.rt:69:5
 loop-less : tie.Need-loop-less Inv-loop μ-loop
@@ -100,7 +100,7 @@ loop-less c =
     let at-loop-test = c .before .before .before .before .before .before .before .before in
     let at-loop = at-loop-test .before in
     let start = at-loop .before .before .before .before .before .before .before in
-    next-less _ _ _ _ (next-mark _ _ (start .pre .1 .lies .marks) (at-loop .loop .inv .small) (at-loop-test .loop-test .taken)) (c .set-bit .ensures)
+    next-less _ _ _ _ (next-mark _ _ (start .pre .0 .lies .marks) (at-loop .loop .inv .small) (at-loop-test .loop-test .taken)) (c .set-bit .ensures)
 
 -- src/lib.rt:69:5
 loop-again : tie.Need-loop-again Inv-loop μ-loop
@@ -111,7 +111,7 @@ loop-again c =
     let at-loop = at-loop-test .before in
     let at-false-in = at-loop .before .before .before in
     let start = at-false-in .before .before .before .before in
-    core-again _ _ _ _ _ (start .pre .1) (start .pre .2) _ (at-false-in .false-in .kept .0) (at-false-in .false-in .ensures .0) _ _ _ _ (at-loop-test .loop-test .taken) (at-loop .loop .inv) _ (next-mark _ _ (start .pre .1 .lies .marks) (at-loop .loop .inv .small) (at-loop-test .loop-test .taken))
+    core-again _ _ _ _ _ (start .pre .0) (start .pre .1) _ (at-false-in .false-in .kept .0) (at-false-in .false-in .ensures .0) _ _ _ _ (at-loop-test .loop-test .taken) (at-loop .loop .inv) _ (next-mark _ _ (start .pre .0 .lies .marks) (at-loop .loop .inv .small) (at-loop-test .loop-test .taken))
     _ (at-core-step .core-step .ensures .0) (at-core-step .core-step .kept .0) _ (at-core-step .core-step .ensures .1) _ _ (at-k .k .given .1) _ (c .set-bit .ensures)
 
 -- src/lib.rt:60:1
@@ -127,7 +127,7 @@ returns-2 c =
     let at-loop = c .before in
     let at-false-in = at-loop .before .before .before in
     let start = at-false-in .before .before .before .before in
-    core-end _ _ _ _ _ (start .pre .1) (start .pre .2) _ (at-false-in .false-in .kept .0) (at-false-in .false-in .ensures .0) _ _ _ _ (c .loop-test .left) (at-loop .loop .inv)
+    core-end _ _ _ _ _ (start .pre .0) (start .pre .1) _ (at-false-in .false-in .kept .0) (at-false-in .false-in .ensures .0) _ _ _ _ (c .loop-test .left) (at-loop .loop .inv)
 
 pub core-of-spec : {M : Type 1} → statement M
 core-of-spec =

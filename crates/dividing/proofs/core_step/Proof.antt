@@ -9,8 +9,8 @@ use Rattle.dividing.proofs.core_step.Tie as tie
 use Rattle.dividing.proofs.core_step.Reads as reads
 use Rattle.dividing.proofs.core_step.Lts as lts
 use Rattle.frame.proofs.copy_in.Reads as copy-in-reads
-use Rattle.ops.proofs.all_in.Reads as all-in-reads
-use Rattle.ops.proofs.cases_in.Reads as cases-in-reads
+use Rattle.frame_join.proofs.all_in.Reads as all-in-reads
+use Rattle.frame_counts.proofs.cases_in.Reads as cases-in-reads
 
 -- src/lib.rt:46:17
 mul-place : tie.Need-mul-place
@@ -28,7 +28,7 @@ add-tried c = search needs
 all-in-requires : tie.Need-all-in-requires
 all-in-requires c κs =
     let start = c .before .before .before in
-    (start .pre .0, ask-all _ _ _ (start .args .m .0) (start .args .kc) (start .args .most) _ (start .pre .1) (start .pre .2) .0, ask-all _ _ _ (start .args .m .0) (start .args .kc) (start .args .most) _ (start .pre .1) (start .pre .2) .1, start .pre .3)
+    ask-all _ _ _ (start .args .m .0) (start .args .kc) (start .args .most) _ (start .pre .0) (start .pre .1)
 
 -- src/lib.rt:48:21
 enum-known-ke : tie.Need-enum-known-ke
@@ -47,7 +47,7 @@ returns : tie.Need-returns
 returns c =
     let at-all-in = c .before .before .before .before in
     let start = at-all-in .before .before .before .before in
-    step-over _ _ _ _ _ _ _ (start .pre .1) (start .pre .2) _ (at-all-in .all-in .ensures .0) (at-all-in .all-in .kept .0) _ (at-all-in .all-in .ensures .1) (c .enum-told .given .1)
+    step-over _ _ _ _ _ _ _ (start .pre .0) (start .pre .1) _ (at-all-in .all-in .ensures .0) (at-all-in .all-in .kept .0) _ (at-all-in .all-in .ensures .1) (c .enum-told .given .1)
 
 -- src/lib.rt:51:9
 cases-in-requires : tie.Need-cases-in-requires
@@ -55,8 +55,7 @@ cases-in-requires c κs =
     let at-ke = c .before .before in
     let at-all-in = at-ke .before .before .before .before in
     let start = at-all-in .before .before .before .before in
-    let a = ask-cases _ _ _ _ (start .args .kc) (start .args .most) _ (start .pre .1) (start .pre .2) _ (at-all-in .all-in .ensures .0) (at-all-in .all-in .kept .0) _ (at-all-in .all-in .ensures .1) _ (at-ke .ke .given .1) in
-    (start .pre .0, a .0, a .1)
+    ask-cases _ _ _ _ (start .args .kc) (start .args .most) _ (start .pre .0) (start .pre .1) _ (at-all-in .all-in .ensures .0) (at-all-in .all-in .kept .0) _ (at-all-in .all-in .ensures .1) _ (at-ke .ke .given .1)
 
 -- src/lib.rt:53:41
 add-copy-in : tie.Need-add-copy-in
@@ -69,7 +68,7 @@ copy-in-requires c κs =
     let at-ke = at-cases-in .before .before .before in
     let at-all-in = at-ke .before .before .before .before in
     let start = at-all-in .before .before .before .before in
-    ask-copy _ _ _ _ (start .args .kc) (start .args .most) _ (start .pre .1) (start .pre .2) _ (at-all-in .all-in .ensures .0) (at-all-in .all-in .kept .0) _ (at-all-in .all-in .ensures .1) _ (at-ke .ke .given .1) _ (at-cases-in .cases-in .ensures .0) (at-cases-in .cases-in .kept .0) _ (at-cases-in .cases-in .ensures .1)
+    ask-copy _ _ _ _ (start .args .kc) (start .args .most) _ (start .pre .0) (start .pre .1) _ (at-all-in .all-in .ensures .0) (at-all-in .all-in .kept .0) _ (at-all-in .all-in .ensures .1) _ (at-ke .ke .given .1) _ (at-cases-in .cases-in .ensures .0) (at-cases-in .cases-in .kept .0) _ (at-cases-in .cases-in .ensures .1)
 
 -- src/lib.rt:54:9
 same-length-2 : tie.Need-same-length-2
@@ -84,7 +83,7 @@ returns-2 c =
     let at-ke = at-cases-in .before .before .before in
     let at-all-in = at-ke .before .before .before .before in
     let start = at-all-in .before .before .before .before in
-    step-more _ _ _ _ _ _ _ (start .pre .1) (start .pre .2) _ (at-all-in .all-in .ensures .0) (at-all-in .all-in .kept .0) _ (at-all-in .all-in .ensures .1) _ (at-ke .ke .given .1) _ (at-cases-in .cases-in .ensures .0) (at-cases-in .cases-in .kept .0) _ (at-cases-in .cases-in .ensures .1)
+    step-more _ _ _ _ _ _ _ (start .pre .0) (start .pre .1) _ (at-all-in .all-in .ensures .0) (at-all-in .all-in .kept .0) _ (at-all-in .all-in .ensures .1) _ (at-ke .ke .given .1) _ (at-cases-in .cases-in .ensures .0) (at-cases-in .cases-in .kept .0) _ (at-cases-in .cases-in .ensures .1)
     _ (at-copy-in .copy-in .ensures .0) (at-copy-in .copy-in .ensures .1) (at-if1 .if1 .taken)
 
 -- src/lib.rt:41:1
@@ -98,7 +97,7 @@ returns-3 c =
     let at-ke = at-cases-in .before .before .before in
     let at-all-in = at-ke .before .before .before .before in
     let start = at-all-in .before .before .before .before in
-    step-less _ _ _ _ _ _ _ (start .pre .1) (start .pre .2) _ (at-all-in .all-in .ensures .0) (at-all-in .all-in .kept .0) _ (at-all-in .all-in .ensures .1) _ (at-ke .ke .given .1) _ (at-cases-in .cases-in .ensures .0) (at-cases-in .cases-in .kept .0) _ (at-cases-in .cases-in .ensures .1) (c .if1 .left)
+    step-less _ _ _ _ _ _ _ (start .pre .0) (start .pre .1) _ (at-all-in .all-in .ensures .0) (at-all-in .all-in .kept .0) _ (at-all-in .all-in .ensures .1) _ (at-ke .ke .given .1) _ (at-cases-in .cases-in .ensures .0) (at-cases-in .cases-in .kept .0) _ (at-cases-in .cases-in .ensures .1) (c .if1 .left)
 
 pub core-step-spec : {M : Type 1} → statement M
 core-step-spec =

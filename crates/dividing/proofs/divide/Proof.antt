@@ -1,6 +1,6 @@
 use borrow.Author.Needs.{needs}
 -- `divide`: the three steps, one after another.
-use Rattle.dividing.proofs.DivideLaws.{over-core, ask-rest, over-rest, ask-mark, over-mark, divided-into}
+use Rattle.dividing.proofs.DivideLaws.{ask-support, over-core, ask-rest, over-rest, ask-mark, over-mark, divided-into}
 -- (head ends)
 use Rattle.dividing.proofs.divide.Statement.{statement}
 use Rattle.dividing.proofs.divide.Tie as tie
@@ -10,13 +10,13 @@ use Rattle.dividing.proofs.divide.Lts as lts
 support-in-requires : tie.Need-support-in-requires
 support-in-requires c κs =
     let start = c .before .before in
-    (start .pre .0, start .pre .1 .frame .held)
+    ask-support _ _ _ _ (start .pre)
 
 core-of-requires : tie.Need-core-of-requires
 core-of-requires c κs =
     let at-support-in = c .before in
     let start = at-support-in .before .before .before in
-    (start .pre .0, start .pre .1 .frame, at-support-in .support-in .ensures)
+    (start .pre .frame, at-support-in .support-in .ensures)
 
 enum-known-core : tie.Need-enum-known-core
 enum-known-core c = search needs
@@ -32,7 +32,7 @@ returns c =
     let at-core-of = c .before .before .before .before in
     let at-support-in = at-core-of .before .before in
     let start = at-support-in .before .before .before in
-    over-core _ _ _ _ (start .pre .1) _ (at-support-in .support-in .ensures) _ (at-core-of .core-of .ensures .0) (at-core-of .core-of .kept .0) _ (at-core-of .core-of .ensures .1) (c .enum-told .given .1)
+    over-core _ _ _ _ (start .pre) _ (at-support-in .support-in .ensures) _ (at-core-of .core-of .ensures .0) (at-core-of .core-of .kept .0) _ (at-core-of .core-of .ensures .1) (c .enum-told .given .1)
 
 rest-of-requires : tie.Need-rest-of-requires
 rest-of-requires c κs =
@@ -40,7 +40,7 @@ rest-of-requires c κs =
     let at-core-of = at-core .before .before .before .before in
     let at-support-in = at-core-of .before .before in
     let start = at-support-in .before .before .before in
-    (start .pre .0, ask-rest _ _ _ _ (start .pre .1) _ (at-support-in .support-in .ensures) _ (at-core-of .core-of .ensures .0) (at-core-of .core-of .kept .0) (at-core-of .core-of .result) (at-core-of .core-of .ensures .1) _ _ (at-core .core .given .1))
+    ask-rest _ _ _ _ (start .pre) _ (at-support-in .support-in .ensures) _ (at-core-of .core-of .ensures .0) (at-core-of .core-of .kept .0) (at-core-of .core-of .result) (at-core-of .core-of .ensures .1) _ _ (at-core .core .given .1)
 
 enum-known-rest : tie.Need-enum-known-rest
 enum-known-rest c = search needs
@@ -58,7 +58,7 @@ returns-2 c =
     let at-core-of = at-core .before .before .before .before in
     let at-support-in = at-core-of .before .before in
     let start = at-support-in .before .before .before in
-    over-rest _ _ _ _ (start .pre .1) _ (at-support-in .support-in .ensures) _ (at-core-of .core-of .ensures .0) (at-core-of .core-of .kept .0) (at-core-of .core-of .result) (at-core-of .core-of .ensures .1) _ _ (at-core .core .given .1)
+    over-rest _ _ _ _ (start .pre) _ (at-support-in .support-in .ensures) _ (at-core-of .core-of .ensures .0) (at-core-of .core-of .kept .0) (at-core-of .core-of .result) (at-core-of .core-of .ensures .1) _ _ (at-core .core .given .1)
     _ (at-rest-of .rest-of .ensures .0) (at-rest-of .rest-of .kept .0) _ (at-rest-of .rest-of .ensures .1) (c .enum-told2 .given .1)
 
 mark-of-requires : tie.Need-mark-of-requires
@@ -69,8 +69,8 @@ mark-of-requires c κs =
     let at-core-of = at-core .before .before .before .before in
     let at-support-in = at-core-of .before .before in
     let start = at-support-in .before .before .before in
-    let a = ask-mark _ _ _ _ (start .pre .1) _ (at-support-in .support-in .ensures) _ (at-core-of .core-of .ensures .0) (at-core-of .core-of .kept .0) (at-core-of .core-of .result) (at-core-of .core-of .ensures .1) _ _ (at-core .core .given .1) _ (at-rest-of .rest-of .ensures .0) (at-rest-of .rest-of .kept .0) (at-rest-of .rest-of .result) (at-rest-of .rest-of .ensures .1) _ (at-rest .rest .given .1) in
-    (start .pre .0, a .0, a .1)
+    let a = ask-mark _ _ _ _ (start .pre) _ (at-support-in .support-in .ensures) _ (at-core-of .core-of .ensures .0) (at-core-of .core-of .kept .0) (at-core-of .core-of .result) (at-core-of .core-of .ensures .1) _ _ (at-core .core .given .1) _ (at-rest-of .rest-of .ensures .0) (at-rest-of .rest-of .kept .0) (at-rest-of .rest-of .result) (at-rest-of .rest-of .ensures .1) _ (at-rest .rest .given .1) in
+    a
 
 enum-known-mark : tie.Need-enum-known-mark
 enum-known-mark c = search needs
@@ -90,7 +90,7 @@ returns-3 c =
     let at-core-of = at-core .before .before .before .before in
     let at-support-in = at-core-of .before .before in
     let start = at-support-in .before .before .before in
-    over-mark _ _ _ _ (start .pre .1) _ (at-support-in .support-in .ensures) _ (at-core-of .core-of .ensures .0) (at-core-of .core-of .kept .0) (at-core-of .core-of .result) (at-core-of .core-of .ensures .1) _ _ (at-core .core .given .1)
+    over-mark _ _ _ _ (start .pre) _ (at-support-in .support-in .ensures) _ (at-core-of .core-of .ensures .0) (at-core-of .core-of .kept .0) (at-core-of .core-of .result) (at-core-of .core-of .ensures .1) _ _ (at-core .core .given .1)
     _ (at-rest-of .rest-of .ensures .0) (at-rest-of .rest-of .kept .0) (at-rest-of .rest-of .result) (at-rest-of .rest-of .ensures .1) _ (at-rest .rest .given .1) _ (at-mark-of .mark-of .ensures .0) (at-mark-of .mark-of .kept .0) _ (at-mark-of .mark-of .ensures .1) (c .enum-told3 .given .1)
 
 same-length-4 : tie.Need-same-length-4
@@ -106,7 +106,7 @@ returns-4 c =
     let at-core-of = at-core .before .before .before .before in
     let at-support-in = at-core-of .before .before in
     let start = at-support-in .before .before .before in
-    divided-into _ _ _ _ (start .pre .1) _ (at-support-in .support-in .ensures) _ (at-core-of .core-of .ensures .0) (at-core-of .core-of .kept .0) (at-core-of .core-of .result) (at-core-of .core-of .ensures .1) _ _ (at-core .core .given .1)
+    divided-into _ _ _ _ (start .pre) _ (at-support-in .support-in .ensures) _ (at-core-of .core-of .ensures .0) (at-core-of .core-of .kept .0) (at-core-of .core-of .result) (at-core-of .core-of .ensures .1) _ _ (at-core .core .given .1)
     _ (at-rest-of .rest-of .ensures .0) (at-rest-of .rest-of .kept .0) (at-rest-of .rest-of .result) (at-rest-of .rest-of .ensures .1) _ (at-rest .rest .given .1) _ (at-mark-of .mark-of .ensures .0) (at-mark-of .mark-of .kept .0) _ (at-mark-of .mark-of .ensures .1) _ _ (at-mark .mark .given .1)
 
 pub divide-spec : {M : Type 1} → statement M

@@ -32,14 +32,14 @@ add-least c = search needs
 loop-holds : tie.Need-loop-holds Inv-loop μ-loop
 loop-holds c =
     let start = c .before .before in
-    mark-start _ _ _ _ _ (start .pre .1) (start .pre .2)
+    mark-start _ _ _ _ _ (start .pre .0) (start .pre .1)
 
 -- src/lib.rt:168:29
 cast-t15 : tie.Need-cast-t15 Inv-loop μ-loop
 cast-t15 c =
     let at-loop = c .before in
     let start = at-loop .before .before .before in
-    record { fits = omega (arith, next-mark _ _ (start .pre .1 .lies .marks) (at-loop .loop .inv .small) (c .loop-test .taken) .less, start .pre .1 .lies .marks) }
+    record { fits = omega (arith, next-mark _ _ (start .pre .0 .lies .marks) (at-loop .loop .inv .small) (c .loop-test .taken) .less, start .pre .0 .lies .marks) }
 
 -- src/lib.rt:169:35
 mark-step-requires : tie.Need-mark-step-requires Inv-loop μ-loop
@@ -47,7 +47,7 @@ mark-step-requires c κs =
     let at-loop-test = c .before in
     let at-loop = at-loop-test .before in
     let start = at-loop .before .before .before in
-    (start .pre .0, ask-step _ _ _ _ _ (start .pre .1) _ _ _ _ (at-loop .loop .inv), next-mark _ _ (start .pre .1 .lies .marks) (at-loop .loop .inv .small) (at-loop-test .loop-test .taken) .less)
+    (ask-step _ _ _ _ _ (start .pre .0) _ _ _ _ (at-loop .loop .inv), next-mark _ _ (start .pre .0 .lies .marks) (at-loop .loop .inv .small) (at-loop-test .loop-test .taken) .less)
 
 -- src/lib.rt:169:27
 enum-known-x : tie.Need-enum-known-x Inv-loop μ-loop
@@ -71,7 +71,7 @@ returns c =
     let at-loop-test = at-mark-step .before .before in
     let at-loop = at-loop-test .before in
     let start = at-loop .before .before .before in
-    mark-over _ _ _ _ _ (start .pre .1) _ _ _ _ (at-loop .loop .inv) _ (next-mark _ _ (start .pre .1 .lies .marks) (at-loop .loop .inv .small) (at-loop-test .loop-test .taken)) _ (at-mark-step .mark-step .ensures .0) (at-mark-step .mark-step .kept .0) _ (at-mark-step .mark-step .ensures .1) (c .enum-told .given .1)
+    mark-over _ _ _ _ _ (start .pre .0) _ _ _ _ (at-loop .loop .inv) _ (next-mark _ _ (start .pre .0 .lies .marks) (at-loop .loop .inv .small) (at-loop-test .loop-test .taken)) _ (at-mark-step .mark-step .ensures .0) (at-mark-step .mark-step .kept .0) _ (at-mark-step .mark-step .ensures .1) (c .enum-told .given .1)
 
 -- src/lib.rt:174:9
 set-bit-requires : tie.Need-set-bit-requires Inv-loop μ-loop
@@ -79,7 +79,7 @@ set-bit-requires c κs =
     let at-loop-test = c .before .before .before .before .before .before .before in
     let at-loop = at-loop-test .before in
     let start = at-loop .before .before .before in
-    omega (arith, next-mark _ _ (start .pre .1 .lies .marks) (at-loop .loop .inv .small) (at-loop-test .loop-test .taken) .less, start .pre .1 .lies .marks)
+    omega (arith, next-mark _ _ (start .pre .0 .lies .marks) (at-loop .loop .inv .small) (at-loop-test .loop-test .taken) .less, start .pre .0 .lies .marks)
 
 -- src/lib.rt:167:5
 loop-less : tie.Need-loop-less Inv-loop μ-loop
@@ -87,7 +87,7 @@ loop-less c =
     let at-loop-test = c .before .before .before .before .before .before .before .before in
     let at-loop = at-loop-test .before in
     let start = at-loop .before .before .before in
-    next-less _ _ _ _ (next-mark _ _ (start .pre .1 .lies .marks) (at-loop .loop .inv .small) (at-loop-test .loop-test .taken)) (c .set-bit .ensures)
+    next-less _ _ _ _ (next-mark _ _ (start .pre .0 .lies .marks) (at-loop .loop .inv .small) (at-loop-test .loop-test .taken)) (c .set-bit .ensures)
 
 -- src/lib.rt:167:5
 loop-again : tie.Need-loop-again Inv-loop μ-loop
@@ -97,7 +97,7 @@ loop-again c =
     let at-loop-test = at-mark-step .before .before in
     let at-loop = at-loop-test .before in
     let start = at-loop .before .before .before in
-    mark-again _ _ _ _ _ (start .pre .1) _ _ _ _ (at-loop .loop .inv) _ (next-mark _ _ (start .pre .1 .lies .marks) (at-loop .loop .inv .small) (at-loop-test .loop-test .taken)) _ (at-mark-step .mark-step .ensures .0) (at-mark-step .mark-step .kept .0) _ (at-mark-step .mark-step .ensures .1) _ _ (at-x .x .given .1) _ (c .set-bit .ensures)
+    mark-again _ _ _ _ _ (start .pre .0) _ _ _ _ (at-loop .loop .inv) _ (next-mark _ _ (start .pre .0 .lies .marks) (at-loop .loop .inv .small) (at-loop-test .loop-test .taken)) _ (at-mark-step .mark-step .ensures .0) (at-mark-step .mark-step .kept .0) _ (at-mark-step .mark-step .ensures .1) _ _ (at-x .x .given .1) _ (c .set-bit .ensures)
 
 -- src/lib.rt:159:1
 same-length-2 : tie.Need-same-length-2 Inv-loop μ-loop
@@ -110,7 +110,7 @@ returns-2 : tie.Need-returns-2 Inv-loop μ-loop
 returns-2 c =
     let at-loop = c .before in
     let start = at-loop .before .before .before in
-    mark-end _ _ _ _ _ (start .pre .1) _ _ _ _ (at-loop .loop .inv) (at-loop .loop .best) refl (c .loop-test .left)
+    mark-end _ _ _ _ _ (start .pre .0) _ _ _ _ (at-loop .loop .inv) (at-loop .loop .best) refl (c .loop-test .left)
 
 pub mark-of-spec : {M : Type 1} → statement M
 mark-of-spec =

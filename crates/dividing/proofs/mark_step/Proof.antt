@@ -9,7 +9,7 @@ use Rattle.dividing.proofs.mark_step.Statement.{statement}
 use Rattle.dividing.proofs.mark_step.Tie as tie
 use Rattle.dividing.proofs.mark_step.Reads as reads
 use Rattle.dividing.proofs.mark_step.Lts as lts
-use Rattle.ops.proofs.fix_in.Reads as fix-in-reads
+use Rattle.frame_carry.proofs.fix_in.Reads as fix-in-reads
 
 -- src/lib.rt:143:17
 mul-place : tie.Need-mul-place
@@ -35,8 +35,8 @@ add-tried c = search needs
 fix-in-requires : tie.Need-fix-in-requires
 fix-in-requires c κs =
     let start = c .before .before .before in
-    let a = ask-high _ _ _ (start .args .m .0) (start .args .best .0) (start .args .least) _ (start .pre .1) in
-    (start .pre .0, a .0, a .1, start .pre .2)
+    let a = ask-high _ _ _ (start .args .m .0) (start .args .best .0) (start .args .least) _ (start .pre .0) in
+    a
 
 -- src/lib.rt:146:21
 enum-known-k1 : tie.Need-enum-known-k1
@@ -55,15 +55,15 @@ returns : tie.Need-returns
 returns c =
     let at-fix-in = c .before .before .before .before in
     let start = at-fix-in .before .before .before .before in
-    over-high _ _ _ (start .args .m .0) (start .args .best .0) (start .args .least) _ (start .pre .1) _ (at-fix-in .fix-in .ensures .0) (at-fix-in .fix-in .kept .0) _ (at-fix-in .fix-in .ensures .1) (c .enum-told .given .1)
+    over-high _ _ _ (start .args .m .0) (start .args .best .0) (start .args .least) _ (start .pre .0) _ (at-fix-in .fix-in .ensures .0) (at-fix-in .fix-in .kept .0) _ (at-fix-in .fix-in .ensures .1) (c .enum-told .given .1)
 
 -- src/lib.rt:149:27
 fix-in-requires-2 : tie.Need-fix-in-requires-2
 fix-in-requires-2 c κs =
     let at-fix-in = c .before .before .before .before .before .before in
     let start = at-fix-in .before .before .before .before in
-    let a = ask-low _ _ _ (start .args .m .0) (start .args .best .0) (start .args .least) _ (start .pre .1) _ (at-fix-in .fix-in .ensures .0) (at-fix-in .fix-in .kept .0) (at-fix-in .fix-in .result) (at-fix-in .fix-in .ensures .1) in
-    (start .pre .0, a .0, a .1, start .pre .2)
+    let a = ask-low _ _ _ (start .args .m .0) (start .args .best .0) (start .args .least) _ (start .pre .0) _ (at-fix-in .fix-in .ensures .0) (at-fix-in .fix-in .kept .0) (at-fix-in .fix-in .result) (at-fix-in .fix-in .ensures .1) in
+    a
 
 -- src/lib.rt:149:21
 enum-known-k0 : tie.Need-enum-known-k0
@@ -84,7 +84,7 @@ returns-2 c =
     let at-k1 = at-fix-in2 .before .before .before in
     let at-fix-in = at-k1 .before .before .before .before in
     let start = at-fix-in .before .before .before .before in
-    over-low _ _ _ (start .args .m .0) (start .args .best .0) (start .args .least) _ (start .pre .1) _ (at-fix-in .fix-in .ensures .0) (at-fix-in .fix-in .kept .0) _ (at-fix-in .fix-in .ensures .1) _ (at-k1 .k1 .given .1) _ (at-fix-in2 .fix-in2 .ensures .0) _ (at-fix-in2 .fix-in2 .ensures .1) (c .enum-told2 .given .1)
+    over-low _ _ _ (start .args .m .0) (start .args .best .0) (start .args .least) _ (start .pre .0) _ (at-fix-in .fix-in .ensures .0) (at-fix-in .fix-in .kept .0) _ (at-fix-in .fix-in .ensures .1) _ (at-k1 .k1 .given .1) _ (at-fix-in2 .fix-in2 .ensures .0) _ (at-fix-in2 .fix-in2 .ensures .1) (c .enum-told2 .given .1)
 
 -- src/lib.rt:152:8
 add-if1 : tie.Need-add-if1
@@ -94,7 +94,7 @@ add-if1 c =
     let at-k1 = at-fix-in2 .before .before .before in
     let at-fix-in = at-k1 .before .before .before .before in
     let start = at-fix-in .before .before .before .before in
-    record { fits = omega (arith, sum-fits _ _ _ (start .args .m .0) (start .args .best .0) (start .args .least) _ (start .pre .1) _ (at-fix-in .fix-in .ensures .0) (at-fix-in .fix-in .kept .0) _ (at-fix-in .fix-in .ensures .1) _ (at-k1 .k1 .given .1) _ (at-fix-in2 .fix-in2 .ensures .0) _ (at-fix-in2 .fix-in2 .ensures .1) _ (at-k0 .k0 .given .1)) }
+    record { fits = omega (arith, sum-fits _ _ _ (start .args .m .0) (start .args .best .0) (start .args .least) _ (start .pre .0) _ (at-fix-in .fix-in .ensures .0) (at-fix-in .fix-in .kept .0) _ (at-fix-in .fix-in .ensures .1) _ (at-k1 .k1 .given .1) _ (at-fix-in2 .fix-in2 .ensures .0) _ (at-fix-in2 .fix-in2 .ensures .1) _ (at-k0 .k0 .given .1)) }
 
 -- src/lib.rt:153:33
 add-t22 : tie.Need-add-t22
@@ -104,7 +104,7 @@ add-t22 c =
     let at-k1 = at-fix-in2 .before .before .before in
     let at-fix-in = at-k1 .before .before .before .before in
     let start = at-fix-in .before .before .before .before in
-    record { fits = omega (arith, sum-fits _ _ _ (start .args .m .0) (start .args .best .0) (start .args .least) _ (start .pre .1) _ (at-fix-in .fix-in .ensures .0) (at-fix-in .fix-in .kept .0) _ (at-fix-in .fix-in .ensures .1) _ (at-k1 .k1 .given .1) _ (at-fix-in2 .fix-in2 .ensures .0) _ (at-fix-in2 .fix-in2 .ensures .1) _ (at-k0 .k0 .given .1)) }
+    record { fits = omega (arith, sum-fits _ _ _ (start .args .m .0) (start .args .best .0) (start .args .least) _ (start .pre .0) _ (at-fix-in .fix-in .ensures .0) (at-fix-in .fix-in .kept .0) _ (at-fix-in .fix-in .ensures .1) _ (at-k1 .k1 .given .1) _ (at-fix-in2 .fix-in2 .ensures .0) _ (at-fix-in2 .fix-in2 .ensures .1) _ (at-k0 .k0 .given .1)) }
 
 -- src/lib.rt:153:9
 same-length-3 : tie.Need-same-length-3
@@ -118,7 +118,7 @@ returns-3 c =
     let at-k1 = at-fix-in2 .before .before .before in
     let at-fix-in = at-k1 .before .before .before .before in
     let start = at-fix-in .before .before .before .before in
-    step-new _ _ _ (start .args .m .0) (start .args .best .0) (start .args .least) _ (start .pre .1) _ (at-fix-in .fix-in .ensures .0) (at-fix-in .fix-in .kept .0) _ (at-fix-in .fix-in .ensures .1) _ (at-k1 .k1 .given .1) _ (at-fix-in2 .fix-in2 .ensures .0) _ (at-fix-in2 .fix-in2 .ensures .1) _ (at-k0 .k0 .given .1) (start .args .m) refl (c .if1 .taken)
+    step-new _ _ _ (start .args .m .0) (start .args .best .0) (start .args .least) _ (start .pre .0) _ (at-fix-in .fix-in .ensures .0) (at-fix-in .fix-in .kept .0) _ (at-fix-in .fix-in .ensures .1) _ (at-k1 .k1 .given .1) _ (at-fix-in2 .fix-in2 .ensures .0) _ (at-fix-in2 .fix-in2 .ensures .1) _ (at-k0 .k0 .given .1) (start .args .m) refl (c .if1 .taken)
 
 -- src/lib.rt:130:1
 same-length-4 : tie.Need-same-length-4
@@ -132,7 +132,7 @@ returns-4 c =
     let at-k1 = at-fix-in2 .before .before .before in
     let at-fix-in = at-k1 .before .before .before .before in
     let start = at-fix-in .before .before .before .before in
-    step-old _ _ _ (start .args .m .0) (start .args .best .0) (start .args .least) _ (start .pre .1) _ (at-fix-in .fix-in .ensures .0) (at-fix-in .fix-in .kept .0) _ (at-fix-in .fix-in .ensures .1) _ (at-k1 .k1 .given .1) _ (at-fix-in2 .fix-in2 .ensures .0) _ (at-fix-in2 .fix-in2 .ensures .1) _ (at-k0 .k0 .given .1) (start .args .best) refl (c .if1 .left)
+    step-old _ _ _ (start .args .m .0) (start .args .best .0) (start .args .least) _ (start .pre .0) _ (at-fix-in .fix-in .ensures .0) (at-fix-in .fix-in .kept .0) _ (at-fix-in .fix-in .ensures .1) _ (at-k1 .k1 .given .1) _ (at-fix-in2 .fix-in2 .ensures .0) _ (at-fix-in2 .fix-in2 .ensures .1) _ (at-k0 .k0 .given .1) (start .args .best) refl (c .if1 .left)
 
 pub mark-step-spec : {M : Type 1} → statement M
 mark-step-spec =

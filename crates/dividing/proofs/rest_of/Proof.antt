@@ -13,8 +13,8 @@ use Rattle.dividing.proofs.rest_of.Reads as reads
 use Rattle.dividing.proofs.rest_of.Lts as lts
 use Rattle.dividing.proofs.rest_step.Reads as rest-step-reads
 use Rattle.frame.proofs.copy_in.Reads as copy-in-reads
-use Rattle.ops.proofs.and_not_in.Reads as and-not-in-reads
-use Rattle.ops.proofs.support_in.Reads as support-in-reads
+use Rattle.frame_join.proofs.and_not_in.Reads as and-not-in-reads
+use Rattle.frame_counts.proofs.support_in.Reads as support-in-reads
 use Rattle.valuation.proofs.set_bit.Reads as set-bit-reads
 
 abbrev Inv-loop : tie.InvT-loop
@@ -43,7 +43,7 @@ add-left c = search needs
 copy-in-requires : tie.Need-copy-in-requires Inv-loop μ-loop
 copy-in-requires c κs =
     let start = c .before .before .before .before in
-    ask-copy-in _ _ _ _ _ _ (start .pre .1)
+    ask-copy-in _ _ _ _ _ _ (start .pre)
 
 -- src/lib.rt:111:9
 same-length : tie.Need-same-length Inv-loop μ-loop
@@ -55,14 +55,14 @@ returns c =
     let at-copy-in = c .before .before in
     let at-if1 = at-copy-in .before .before in
     let start = at-if1 .before .before .before in
-    none-left _ _ _ _ _ _ (start .pre .1) _ (at-copy-in .copy-in .ensures .0) (at-copy-in .copy-in .ensures .1) (at-if1 .if1 .taken)
+    none-left _ _ _ _ _ _ (start .pre) _ (at-copy-in .copy-in .ensures .0) (at-copy-in .copy-in .ensures .1) (at-if1 .if1 .taken)
 
 -- src/lib.rt:113:27
 and-not-in-requires : tie.Need-and-not-in-requires Inv-loop μ-loop
 and-not-in-requires c κs =
     let start = c .before .before .before .before in
-    let a = ask-and-not _ _ _ _ _ _ (start .pre .1) in
-    (start .pre .0, a .0, a .1, a .2)
+    let a = ask-and-not _ _ _ _ _ _ (start .pre) in
+    a
 
 -- src/lib.rt:113:21
 enum-known-k0 : tie.Need-enum-known-k0 Inv-loop μ-loop
@@ -82,7 +82,7 @@ returns-2 c =
     let at-and-not-in = c .before .before .before .before in
     let at-if1 = at-and-not-in .before .before in
     let start = at-if1 .before .before .before in
-    left-over _ _ _ _ _ _ (start .pre .1) (at-if1 .if1 .left) _ (at-and-not-in .and-not-in .ensures .0) (at-and-not-in .and-not-in .kept .0) _ (at-and-not-in .and-not-in .ensures .1) (c .enum-told .given .1)
+    left-over _ _ _ _ _ _ (start .pre) (at-if1 .if1 .left) _ (at-and-not-in .and-not-in .ensures .0) (at-and-not-in .and-not-in .kept .0) _ (at-and-not-in .and-not-in .ensures .1) (c .enum-told .given .1)
 
 -- src/lib.rt:117:9
 support-in-requires : tie.Need-support-in-requires Inv-loop μ-loop
@@ -90,7 +90,7 @@ support-in-requires c κs =
     let at-and-not-in = c .before .before .before .before .before .before in
     let at-if1 = at-and-not-in .before .before in
     let start = at-if1 .before .before .before in
-    (start .pre .0, ask-support _ _ _ _ _ _ (start .pre .1) (at-if1 .if1 .left) _ (at-and-not-in .and-not-in .ensures .0) (at-and-not-in .and-not-in .kept .0) (at-and-not-in .and-not-in .result) (at-and-not-in .and-not-in .ensures .1))
+    ask-support _ _ _ _ _ _ (start .pre) (at-if1 .if1 .left) _ (at-and-not-in .and-not-in .ensures .0) (at-and-not-in .and-not-in .kept .0) (at-and-not-in .and-not-in .result) (at-and-not-in .and-not-in .ensures .1)
 
 -- src/lib.rt:118:5
 loop-holds : tie.Need-loop-holds Inv-loop μ-loop
@@ -99,14 +99,14 @@ loop-holds c =
     let at-and-not-in = at-k0 .before .before .before .before in
     let at-if1 = at-and-not-in .before .before in
     let start = at-if1 .before .before .before in
-    rest-start _ _ _ _ _ _ (start .pre .1) (at-if1 .if1 .left) _ (at-and-not-in .and-not-in .ensures .0) (at-and-not-in .and-not-in .kept .0) _ (at-and-not-in .and-not-in .ensures .1) _ (at-k0 .k0 .given .1) _ (c .support-in .ensures)
+    rest-start _ _ _ _ _ _ (start .pre) (at-if1 .if1 .left) _ (at-and-not-in .and-not-in .ensures .0) (at-and-not-in .and-not-in .kept .0) _ (at-and-not-in .and-not-in .ensures .1) _ (at-k0 .k0 .given .1) _ (c .support-in .ensures)
 
 -- src/lib.rt:119:29
 cast-t27 : tie.Need-cast-t27 Inv-loop μ-loop
 cast-t27 c =
     let at-loop = c .before in
     let start = at-loop .before .before .before .before .before .before .before .before .before .before .before .before .before in
-    record { fits = omega (arith, next-mark _ _ (start .pre .1 .frame .lies .marks) (at-loop .loop .inv .small) (c .loop-test .taken) .less, start .pre .1 .frame .lies .marks) }
+    record { fits = omega (arith, next-mark _ _ (start .pre .frame .lies .marks) (at-loop .loop .inv .small) (c .loop-test .taken) .less, start .pre .frame .lies .marks) }
 
 -- src/lib.rt:120:30
 rest-step-requires : tie.Need-rest-step-requires Inv-loop μ-loop
@@ -118,8 +118,8 @@ rest-step-requires c κs =
     let at-and-not-in = at-k0 .before .before .before .before in
     let at-if1 = at-and-not-in .before .before in
     let start = at-if1 .before .before .before in
-    let a = ask-step _ _ _ _ _ _ (start .pre .1) (at-if1 .if1 .left) _ (at-and-not-in .and-not-in .ensures .0) (at-and-not-in .and-not-in .kept .0) _ (at-and-not-in .and-not-in .ensures .1) _ (at-k0 .k0 .given .1) _ (at-support-in .support-in .ensures) _ _ _ (at-loop .loop .inv) in
-    (start .pre .0, a .0, a .1, next-mark _ _ (start .pre .1 .frame .lies .marks) (at-loop .loop .inv .small) (at-loop-test .loop-test .taken) .less)
+    let a = ask-step _ _ _ _ _ _ (start .pre) (at-if1 .if1 .left) _ (at-and-not-in .and-not-in .ensures .0) (at-and-not-in .and-not-in .kept .0) _ (at-and-not-in .and-not-in .ensures .1) _ (at-k0 .k0 .given .1) _ (at-support-in .support-in .ensures) _ _ _ (at-loop .loop .inv) in
+    (a .0, a .1, next-mark _ _ (start .pre .frame .lies .marks) (at-loop .loop .inv .small) (at-loop-test .loop-test .taken) .less)
 
 -- src/lib.rt:120:25
 enum-known-k : tie.Need-enum-known-k Inv-loop μ-loop
@@ -148,8 +148,8 @@ returns-3 c =
     let at-and-not-in = at-k0 .before .before .before .before in
     let at-if1 = at-and-not-in .before .before in
     let start = at-if1 .before .before .before in
-    rest-over _ _ _ _ _ _ (start .pre .1) (at-if1 .if1 .left) _ (at-and-not-in .and-not-in .ensures .0) (at-and-not-in .and-not-in .kept .0) _ (at-and-not-in .and-not-in .ensures .1) _ (at-k0 .k0 .given .1) _ (at-support-in .support-in .ensures) _ _ _ (at-loop .loop .inv)
-    _ (next-mark _ _ (start .pre .1 .frame .lies .marks) (at-loop .loop .inv .small) (at-loop-test .loop-test .taken)) _ (at-rest-step .rest-step .ensures .0) (at-rest-step .rest-step .kept .0) _ (at-rest-step .rest-step .ensures .1) (c .enum-told2 .given .1)
+    rest-over _ _ _ _ _ _ (start .pre) (at-if1 .if1 .left) _ (at-and-not-in .and-not-in .ensures .0) (at-and-not-in .and-not-in .kept .0) _ (at-and-not-in .and-not-in .ensures .1) _ (at-k0 .k0 .given .1) _ (at-support-in .support-in .ensures) _ _ _ (at-loop .loop .inv)
+    _ (next-mark _ _ (start .pre .frame .lies .marks) (at-loop .loop .inv .small) (at-loop-test .loop-test .taken)) _ (at-rest-step .rest-step .ensures .0) (at-rest-step .rest-step .kept .0) _ (at-rest-step .rest-step .ensures .1) (c .enum-told2 .given .1)
 
 -- src/lib.rt:124:9
 set-bit-requires : tie.Need-set-bit-requires Inv-loop μ-loop
@@ -157,7 +157,7 @@ set-bit-requires c κs =
     let at-loop-test = c .before .before .before .before .before .before .before in
     let at-loop = at-loop-test .before in
     let start = at-loop .before .before .before .before .before .before .before .before .before .before .before .before .before in
-    omega (arith, next-mark _ _ (start .pre .1 .frame .lies .marks) (at-loop .loop .inv .small) (at-loop-test .loop-test .taken) .less, start .pre .1 .frame .lies .marks)
+    omega (arith, next-mark _ _ (start .pre .frame .lies .marks) (at-loop .loop .inv .small) (at-loop-test .loop-test .taken) .less, start .pre .frame .lies .marks)
 
 -- src/lib.rt:118:5
 loop-less : tie.Need-loop-less Inv-loop μ-loop
@@ -165,7 +165,7 @@ loop-less c =
     let at-loop-test = c .before .before .before .before .before .before .before .before in
     let at-loop = at-loop-test .before in
     let start = at-loop .before .before .before .before .before .before .before .before .before .before .before .before .before in
-    next-less _ _ _ _ (next-mark _ _ (start .pre .1 .frame .lies .marks) (at-loop .loop .inv .small) (at-loop-test .loop-test .taken)) (c .set-bit .ensures)
+    next-less _ _ _ _ (next-mark _ _ (start .pre .frame .lies .marks) (at-loop .loop .inv .small) (at-loop-test .loop-test .taken)) (c .set-bit .ensures)
 
 -- src/lib.rt:118:5
 loop-again : tie.Need-loop-again Inv-loop μ-loop
@@ -179,8 +179,8 @@ loop-again c =
     let at-and-not-in = at-k0 .before .before .before .before in
     let at-if1 = at-and-not-in .before .before in
     let start = at-if1 .before .before .before in
-    rest-again _ _ _ _ _ _ (start .pre .1) (at-if1 .if1 .left) _ (at-and-not-in .and-not-in .ensures .0) (at-and-not-in .and-not-in .kept .0) _ (at-and-not-in .and-not-in .ensures .1) _ (at-k0 .k0 .given .1) _ (at-support-in .support-in .ensures) _ _ _ (at-loop .loop .inv)
-    _ (next-mark _ _ (start .pre .1 .frame .lies .marks) (at-loop .loop .inv .small) (at-loop-test .loop-test .taken)) _ (at-rest-step .rest-step .ensures .0) (at-rest-step .rest-step .kept .0) _ (at-rest-step .rest-step .ensures .1) _ (at-k .k .given .1) _ (c .set-bit .ensures)
+    rest-again _ _ _ _ _ _ (start .pre) (at-if1 .if1 .left) _ (at-and-not-in .and-not-in .ensures .0) (at-and-not-in .and-not-in .kept .0) _ (at-and-not-in .and-not-in .ensures .1) _ (at-k0 .k0 .given .1) _ (at-support-in .support-in .ensures) _ _ _ (at-loop .loop .inv)
+    _ (next-mark _ _ (start .pre .frame .lies .marks) (at-loop .loop .inv .small) (at-loop-test .loop-test .taken)) _ (at-rest-step .rest-step .ensures .0) (at-rest-step .rest-step .kept .0) _ (at-rest-step .rest-step .ensures .1) _ (at-k .k .given .1) _ (c .set-bit .ensures)
 
 -- src/lib.rt:101:1
 same-length-4 : tie.Need-same-length-4 Inv-loop μ-loop
@@ -198,7 +198,7 @@ returns-4 c =
     let at-and-not-in = at-k0 .before .before .before .before in
     let at-if1 = at-and-not-in .before .before in
     let start = at-if1 .before .before .before in
-    rest-end _ _ _ _ _ _ (start .pre .1) (at-if1 .if1 .left) _ (at-and-not-in .and-not-in .ensures .0) (at-and-not-in .and-not-in .kept .0) _ (at-and-not-in .and-not-in .ensures .1) _ (at-k0 .k0 .given .1) _ (at-support-in .support-in .ensures) _ _ _ (at-loop .loop .inv) (c .loop-test .left)
+    rest-end _ _ _ _ _ _ (start .pre) (at-if1 .if1 .left) _ (at-and-not-in .and-not-in .ensures .0) (at-and-not-in .and-not-in .kept .0) _ (at-and-not-in .and-not-in .ensures .1) _ (at-k0 .k0 .given .1) _ (at-support-in .support-in .ensures) _ _ _ (at-loop .loop .inv) (c .loop-test .left)
 
 pub rest-of-spec : {M : Type 1} → statement M
 rest-of-spec =

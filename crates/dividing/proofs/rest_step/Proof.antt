@@ -8,8 +8,8 @@ use Rattle.dividing.proofs.rest_step.Tie as tie
 use Rattle.dividing.proofs.rest_step.Reads as reads
 use Rattle.dividing.proofs.rest_step.Lts as lts
 use Rattle.frame.proofs.copy_in.Reads as copy-in-reads
-use Rattle.ops.proofs.implies_in.Reads as implies-in-reads
-use Rattle.ops.proofs.some_in.Reads as some-in-reads
+use Rattle.frame_implies.proofs.implies_in.Reads as implies-in-reads
+use Rattle.frame_join.proofs.some_in.Reads as some-in-reads
 
 -- src/lib.rt:87:17
 mul-place : tie.Need-mul-place
@@ -35,8 +35,8 @@ add-tried c = search needs
 some-in-requires : tie.Need-some-in-requires
 some-in-requires c κs =
     let start = c .before .before .before in
-    let a = ask-some _ _ _ (start .args .m .0) _ _ (start .pre .1) (start .pre .2) in
-    (start .pre .0, a .0, a .1, start .pre .3)
+    let a = ask-some _ _ _ (start .args .m .0) _ _ (start .pre .0) (start .pre .1) in
+    a
 
 -- src/lib.rt:90:21
 enum-known-ke : tie.Need-enum-known-ke
@@ -55,7 +55,7 @@ returns : tie.Need-returns
 returns c =
     let at-some-in = c .before .before .before .before in
     let start = at-some-in .before .before .before .before in
-    step-over _ _ _ _ _ _ (start .pre .1) (start .pre .2) _ (at-some-in .some-in .ensures .0) (at-some-in .some-in .kept .0) _ (at-some-in .some-in .ensures .1) (c .enum-told .given .1)
+    step-over _ _ _ _ _ _ (start .pre .0) (start .pre .1) _ (at-some-in .some-in .ensures .0) (at-some-in .some-in .kept .0) _ (at-some-in .some-in .ensures .1) (c .enum-told .given .1)
 
 -- src/lib.rt:93:8
 implies-in-requires : tie.Need-implies-in-requires
@@ -63,8 +63,8 @@ implies-in-requires c κs =
     let at-ke = c .before .before in
     let at-some-in = at-ke .before .before .before .before in
     let start = at-some-in .before .before .before .before in
-    let a = ask-implies _ _ _ _ _ _ (start .pre .1) (start .pre .2) _ (at-some-in .some-in .ensures .0) (at-some-in .some-in .kept .0) _ (at-some-in .some-in .ensures .1) _ (at-ke .ke .given .1) in
-    (start .pre .0, a .0, a .1, a .2)
+    let a = ask-implies _ _ _ _ _ _ (start .pre .0) (start .pre .1) _ (at-some-in .some-in .ensures .0) (at-some-in .some-in .kept .0) _ (at-some-in .some-in .ensures .1) _ (at-ke .ke .given .1) in
+    a
 
 -- src/lib.rt:94:9
 copy-in-requires : tie.Need-copy-in-requires
@@ -73,7 +73,7 @@ copy-in-requires c κs =
     let at-ke = at-implies-in .before .before .before in
     let at-some-in = at-ke .before .before .before .before in
     let start = at-some-in .before .before .before .before in
-    ask-copy _ _ _ _ _ _ (start .pre .1) (start .pre .2) _ (at-some-in .some-in .ensures .0) (at-some-in .some-in .kept .0) _ (at-some-in .some-in .ensures .1) _ (at-ke .ke .given .1) _ (at-implies-in .implies-in .ensures .0) (at-implies-in .implies-in .kept .0) _ (at-implies-in .implies-in .ensures .1)
+    ask-copy _ _ _ _ _ _ (start .pre .0) (start .pre .1) _ (at-some-in .some-in .ensures .0) (at-some-in .some-in .kept .0) _ (at-some-in .some-in .ensures .1) _ (at-ke .ke .given .1) _ (at-implies-in .implies-in .ensures .0) (at-implies-in .implies-in .kept .0) _ (at-implies-in .implies-in .ensures .1)
 
 -- src/lib.rt:95:9
 same-length-2 : tie.Need-same-length-2
@@ -88,7 +88,7 @@ returns-2 c =
     let at-ke = at-implies-in .before .before .before in
     let at-some-in = at-ke .before .before .before .before in
     let start = at-some-in .before .before .before .before in
-    step-take _ _ _ _ _ _ (start .pre .1) (start .pre .2) _ (at-some-in .some-in .ensures .0) (at-some-in .some-in .kept .0) _ (at-some-in .some-in .ensures .1) _ (at-ke .ke .given .1) _ (at-implies-in .implies-in .ensures .0) (at-implies-in .implies-in .kept .0) _ (at-implies-in .implies-in .ensures .1)
+    step-take _ _ _ _ _ _ (start .pre .0) (start .pre .1) _ (at-some-in .some-in .ensures .0) (at-some-in .some-in .kept .0) _ (at-some-in .some-in .ensures .1) _ (at-ke .ke .given .1) _ (at-implies-in .implies-in .ensures .0) (at-implies-in .implies-in .kept .0) _ (at-implies-in .implies-in .ensures .1)
     _ (at-copy-in .copy-in .ensures .0) (at-copy-in .copy-in .ensures .1) (at-if1 .if1 .taken)
 
 -- src/lib.rt:82:1
@@ -102,7 +102,7 @@ returns-3 c =
     let at-ke = at-implies-in .before .before .before in
     let at-some-in = at-ke .before .before .before .before in
     let start = at-some-in .before .before .before .before in
-    step-leave _ _ _ _ _ _ (start .pre .1) (start .pre .2) _ (at-some-in .some-in .ensures .0) (at-some-in .some-in .kept .0) _ (at-some-in .some-in .ensures .1) _ (at-ke .ke .given .1) _ (at-implies-in .implies-in .ensures .0) (at-implies-in .implies-in .kept .0) _ (at-implies-in .implies-in .ensures .1) (c .if1 .left)
+    step-leave _ _ _ _ _ _ (start .pre .0) (start .pre .1) _ (at-some-in .some-in .ensures .0) (at-some-in .some-in .kept .0) _ (at-some-in .some-in .ensures .1) _ (at-ke .ke .given .1) _ (at-implies-in .implies-in .ensures .0) (at-implies-in .implies-in .kept .0) _ (at-implies-in .implies-in .ensures .1) (c .if1 .left)
 
 pub rest-step-spec : {M : Type 1} → statement M
 rest-step-spec =

@@ -1,4 +1,5 @@
-use Rattle.operators.proofs.OperatorLaws.{leaves-settling, joined-outcome}
+use Rattle.making.proofs.MakesLaws.{leaves-settling}
+use Rattle.operators.proofs.OperatorLaws.{joined-outcome}
 use borrow.Author.Needs.{needs}
 use Rattle.operators.proofs.joined.Statement.{statement}
 use Rattle.operators.proofs.joined.Tie as tie

@@ -1,6 +1,7 @@
 use Rattle.operators.specs.Operators.{makesExists}
 use Rattle.join.proofs.TruthLaws.{or-table}
-use Rattle.operators.proofs.OperatorLaws.{three, mark-refused, mark-few, mark-given, mark-outcome}
+use Rattle.making.proofs.MakesLaws.{equations}
+use Rattle.operators.proofs.OperatorLaws.{mark-refused, mark-few, mark-given, mark-outcome}
 use borrow.Author.Needs.{needs}
 use Rattle.operators.proofs.var_exists.Statement.{statement}
 use Rattle.operators.proofs.var_exists.Tie as tie
@@ -27,7 +28,7 @@ returns : tie.Need-returns
 unfolding makesExists
 returns c =
     let g = c .before .before .before .before .before .before .before .before .before .args in
-    three _ _ _ _ _ _ (mark-refused (g .n) (g .count) (g .nodes .now) (g .room) (g .out .now) (g .work .now) (g .variable) _ (c .before .before .before .admit-table-room-mark .ensures) _ _ _ (c .before .enum-told2 .given .1) (c .refusal-of .ensures))
+    equations _ _ _ _ _ _ (mark-refused (g .n) (g .count) (g .nodes .now) (g .room) (g .out .now) (g .work .now) (g .variable) _ (c .before .before .before .admit-table-room-mark .ensures) _ _ _ (c .before .enum-told2 .given .1) (c .refusal-of .ensures))
 
 mark-job-requires : tie.Need-mark-job-requires
 mark-job-requires c κs =
@@ -51,7 +52,7 @@ unfolding makesExists
 returns-2 c =
     let passed = c .before .before .before .before .before .before .before .before in
     let g = passed .before .before .before .before .before .before .before .before .args in
-    three _ _ _ _ _ _
+    equations _ _ _ _ _ _
     (mark-outcome (g .n) (g .count) (g .nodes .now) (g .room) (g .out .now) (g .work .now) (g .variable) _ (passed .before .before .admit-table-room-mark .ensures) _ (passed .enum-told .given .1) _ _ or-table _ (c .before .before .before .before .before .before .before .mark-job .ensures) _ _ _ (c .before .before .before .before .joined .ensures))
 
 pub var-exists-spec : {M : Type 1} → statement M

@@ -12,10 +12,10 @@ use Rattle.solving.proofs.solve.Reads as solve
 use Rattle.solving.proofs.solve.Kinds as solve-kinds
 use Rattle.solving.proofs.+solve.Lts-solve as solve-lts
 use Rattle.solving.proofs.push_clause.Reads as push-clause-reads
-use Rattle.solving.proofs.recall.Reads as recall-reads
+use Rattle.harmless.proofs.recall.Reads as recall-reads
 use Rattle.solving.proofs.load_part.Reads as load-part-reads
 use Rattle.solving.proofs.literals.Reads as literals-reads
-use Rattle.solving.proofs.remember.Reads as remember-reads
+use Rattle.harmless.proofs.remember.Reads as remember-reads
 use Rattle.dividing.proofs.divide.Reads as divide-reads
 use Rattle.solving.proofs.+solve.{statement}
 use Rattle.solving.proofs.+solve.Tie.{close}
@@ -42,12 +42,12 @@ module _ (t : ℕ) where
   returns : solve-lts.Need-returns (told t) (at t) solve.Post Inv-loop μ-loop
   returns c =
       let start = c .before .before .before in
-      when-false _ _ _ _ (clauseOf (start .args .y)) _ _ (start .pre .1 .1) (c .if1 .taken)
+      when-false _ _ _ _ (clauseOf (start .args .y)) _ _ (start .pre .1) (c .if1 .taken)
 
   push-clause-requires : solve-lts.Need-push-clause-requires (told t) (at t) solve.Post Inv-loop μ-loop
   push-clause-requires c κs =
       let start = c .before .before .before .before .before in
-      push-fits _ _ _ _ (clauseOf (start .args .y)) _ _ (start .pre .1 .1)
+      push-fits _ _ _ _ (clauseOf (start .args .y)) _ _ (start .pre .1)
 
   same-length : solve-lts.Need-same-length (told t) (at t) solve.Post Inv-loop μ-loop
   same-length c =
@@ -59,7 +59,7 @@ module _ (t : ℕ) where
       let at-push-clause = c .before .before in
       let at-if2 = at-push-clause .before .before in
       let start = at-if2 .before .before .before .before in
-      when-true _ _ _ _ (clauseOf (start .args .y)) _ _ (start .pre .1 .1) (at-if2 .if2 .taken) _ _ (at-push-clause .push-clause .ensures)
+      when-true _ _ _ _ (clauseOf (start .args .y)) _ _ (start .pre .1) (at-if2 .if2 .taken) _ _ (at-push-clause .push-clause .ensures)
 
   mul-f : solve-lts.Need-mul-f (told t) (at t) solve.Post Inv-loop μ-loop
   mul-f c = search needs
@@ -67,7 +67,7 @@ module _ (t : ℕ) where
   mul-f-2 : solve-lts.Need-mul-f-2 (told t) (at t) solve.Post Inv-loop μ-loop
   mul-f-2 c =
       let start = c .before .before .before .before .before in
-      omega (arith, start .pre .1 .1 .few)
+      omega (arith, start .pre .1 .few)
 
   cast-f : solve-lts.Need-cast-f (told t) (at t) solve.Post Inv-loop μ-loop
   cast-f c = search needs
@@ -75,27 +75,27 @@ module _ (t : ℕ) where
   add-f : solve-lts.Need-add-f (told t) (at t) solve.Post Inv-loop μ-loop
   add-f c =
       let start = c .before .before .before .before .before .before in
-      omega (arith, start .pre .1 .1 .marks)
+      omega (arith, start .pre .1 .marks)
 
   add-f-2 : solve-lts.Need-add-f-2 (told t) (at t) solve.Post Inv-loop μ-loop
   add-f-2 c =
       let start = c .before .before .before .before .before .before in
-      omega (arith, start .pre .1 .1 .marks, start .pre .1 .1 .needs)
+      omega (arith, start .pre .1 .marks, start .pre .1 .needs)
 
   mul-f-3 : solve-lts.Need-mul-f-3 (told t) (at t) solve.Post Inv-loop μ-loop
   mul-f-3 c =
       let at-if2 = c .before .before in
       let at-if1 = at-if2 .before in
       let start = at-if1 .before .before .before in
-      omega (arith, numbers _ _ _ _ (clauseOf (start .args .y)) _ _ (start .pre .1 .1) (at-if1 .if1 .left) (at-if2 .if2 .left))
+      omega (arith, numbers _ _ _ _ (clauseOf (start .args .y)) _ _ (start .pre .1) (at-if1 .if1 .left) (at-if2 .if2 .left))
 
   recall-requires : solve-lts.Need-recall-requires (told t) (at t) solve.Post Inv-loop μ-loop
   recall-requires c κs =
       let at-if2 = c .before .before .before .before in
       let at-if1 = at-if2 .before in
       let start = at-if1 .before .before .before in
-      let a = ask-recall _ _ _ _ (clauseOf (start .args .y)) _ _ (start .pre .1 .1) (at-if1 .if1 .left) (at-if2 .if2 .left) in
-      (start .pre .1 .0, a .0, a .1, a .2, a .3)
+      let a = ask-recall _ _ _ _ (clauseOf (start .args .y)) _ _ (start .pre .1) (at-if1 .if1 .left) (at-if2 .if2 .left) in
+      a
 
   same-length-2 : solve-lts.Need-same-length-2 (told t) (at t) solve.Post Inv-loop μ-loop
   same-length-2 c = search needs
@@ -107,14 +107,14 @@ module _ (t : ℕ) where
       let at-if2 = at-if3 .before .before .before in
       let at-if1 = at-if2 .before in
       let start = at-if1 .before .before .before in
-      recalled _ _ _ _ (clauseOf (start .args .y)) _ _ (start .pre .1 .1) (at-if1 .if1 .left) (at-if2 .if2 .left) (at-if3 .if3 .taken) _ (at-recall .recall .ensures) (c .if4 .taken)
+      recalled _ _ _ _ (clauseOf (start .args .y)) _ _ (start .pre .1) (at-if1 .if1 .left) (at-if2 .if2 .left) (at-if3 .if3 .taken) _ (at-recall .recall .ensures) (c .if4 .taken)
 
   divide-requires : solve-lts.Need-divide-requires (told t) (at t) solve.Post Inv-loop μ-loop
   divide-requires c κs =
       let at-if2 = c .before .before .before .before in
       let at-if1 = at-if2 .before in
       let start = at-if1 .before .before .before in
-      (start .pre .1 .0, ask-divide _ _ _ _ (clauseOf (start .args .y)) _ _ (start .pre .1 .1) (at-if1 .if1 .left) (at-if2 .if2 .left))
+      (ask-divide _ _ _ _ (clauseOf (start .args .y)) _ _ (start .pre .1) (at-if1 .if1 .left) (at-if2 .if2 .left))
 
   enum-known-p : solve-lts.Need-enum-known-p (told t) (at t) solve.Post Inv-loop μ-loop
   enum-known-p c = search needs
@@ -133,7 +133,7 @@ module _ (t : ℕ) where
       let at-if2 = at-divide .before .before .before .before .before in
       let at-if1 = at-if2 .before in
       let start = at-if1 .before .before .before in
-      over-divide _ _ _ _ (clauseOf (start .args .y)) _ _ (start .pre .1 .1) (at-if1 .if1 .left) (at-if2 .if2 .left) _ (at-divide .divide .ensures .0) (at-divide .divide .kept .0) (at-divide .divide .result) (at-divide .divide .ensures .1) (c .enum-told .given .1)
+      over-divide _ _ _ _ (clauseOf (start .args .y)) _ _ (start .pre .1) (at-if1 .if1 .left) (at-if2 .if2 .left) _ (at-divide .divide .ensures .0) (at-divide .divide .kept .0) (at-divide .divide .result) (at-divide .divide .ensures .1) (c .enum-told .given .1)
 
   loop-holds : solve-lts.Need-loop-holds (told t) (at t) solve.Post Inv-loop μ-loop
   loop-holds c =
@@ -142,7 +142,7 @@ module _ (t : ℕ) where
       let at-if2 = at-divide .before .before .before .before .before in
       let at-if1 = at-if2 .before in
       let start = at-if1 .before .before .before in
-      turn-start _ _ _ _ (clauseOf (start .args .y)) _ _ (start .pre .1 .1) (at-if1 .if1 .left) (at-if2 .if2 .left) _ (at-divide .divide .ensures .0) (at-divide .divide .kept .0) (at-divide .divide .result) (at-divide .divide .ensures .1) (at-p .p .given .0 .0) (at-p .p .given .1)
+      turn-start _ _ _ _ (clauseOf (start .args .y)) _ _ (start .pre .1) (at-if1 .if1 .left) (at-if2 .if2 .left) _ (at-divide .divide .ensures .0) (at-divide .divide .kept .0) (at-divide .divide .result) (at-divide .divide .ensures .1) (at-p .p .given .0 .0) (at-p .p .given .1)
 
   load-part-requires : solve-lts.Need-load-part-requires (told t) (at t) solve.Post Inv-loop μ-loop
   load-part-requires c κs =
@@ -152,12 +152,12 @@ module _ (t : ℕ) where
       let at-if2 = at-divide .before .before .before .before .before in
       let at-if1 = at-if2 .before in
       let start = at-if1 .before .before .before in
-      (start .pre .1 .0, ask-load _ _ _ _ (clauseOf (start .args .y)) _ _ (start .pre .1 .1) (at-if1 .if1 .left) (at-if2 .if2 .left) _ (at-divide .divide .ensures .0) (at-divide .divide .kept .0) (at-divide .divide .result) (at-divide .divide .ensures .1) (at-p .p .given .0 .0) (at-p .p .given .1) _ _ _ _ (at-loop .loop .inv))
+      (ask-load _ _ _ _ (clauseOf (start .args .y)) _ _ (start .pre .1) (at-if1 .if1 .left) (at-if2 .if2 .left) _ (at-divide .divide .ensures .0) (at-divide .divide .kept .0) (at-divide .divide .result) (at-divide .divide .ensures .1) (at-p .p .given .0 .0) (at-p .p .given .1) _ _ _ _ (at-loop .loop .inv))
 
   add-solve : solve-lts.Need-add-solve (told t) (at t) solve.Post Inv-loop μ-loop
   add-solve c =
       let start = c .before .before .before .before .before .before .before .before .before .before .before .before .before .before .before .before .before .before .before .before .before .before in
-      omega (arith, start .pre .1 .1 .needs, start .pre .1 .1 .marks)
+      omega (arith, start .pre .1 .needs, start .pre .1 .marks)
 
   literals-requires : solve-lts.Need-literals-requires (told t) (at t) solve.Post Inv-loop μ-loop
   literals-requires c κs =
@@ -167,7 +167,7 @@ module _ (t : ℕ) where
       let at-if2 = at-divide .before .before .before .before .before in
       let at-if1 = at-if2 .before in
       let start = at-if1 .before .before .before in
-      omega (arith, mark-fits _ _ _ _ (clauseOf (start .args .y)) _ _ (start .pre .1 .1) (at-if1 .if1 .left) (at-if2 .if2 .left) _ (at-divide .divide .ensures .0) (at-divide .divide .kept .0) (at-divide .divide .result) (at-divide .divide .ensures .1) (at-p .p .given .0 .0) (at-p .p .given .1) _ _ _ _ (at-loop .loop .inv), start .pre .1 .1 .marks)
+      omega (arith, mark-fits _ _ _ _ (clauseOf (start .args .y)) _ _ (start .pre .1) (at-if1 .if1 .left) (at-if2 .if2 .left) _ (at-divide .divide .ensures .0) (at-divide .divide .kept .0) (at-divide .divide .result) (at-divide .divide .ensures .1) (at-p .p .given .0 .0) (at-p .p .given .1) _ _ _ _ (at-loop .loop .inv), start .pre .1 .marks)
 
   solve-requires : solve-lts.Need-solve-requires (told t) (at t) solve.Post Inv-loop μ-loop
   solve-requires c κs =
@@ -179,7 +179,7 @@ module _ (t : ℕ) where
       let at-if2 = at-divide .before .before .before .before .before in
       let at-if1 = at-if2 .before in
       let start = at-if1 .before .before .before in
-      (omega (arith, start .pre .0, start .pre .1 .1 .needs), (start .pre .1 .0, ask-solve _ _ _ _ (clauseOf (start .args .y)) _ _ (start .pre .1 .1) (at-if1 .if1 .left) (at-if2 .if2 .left) _ (at-divide .divide .ensures .0) (at-divide .divide .kept .0) (at-divide .divide .result) (at-divide .divide .ensures .1) (at-p .p .given .0 .0) (at-p .p .given .1) _ _ _ _ (at-loop .loop .inv) (at-loop-test .loop-test .taken) _ (at-load-part .load-part .ensures .0) (at-load-part .load-part .kept .0) _ (at-load-part .load-part .ensures .1) (clauseOf (c .literals .result)) (c .literals .ensures)))
+      (omega (arith, start .pre .0, start .pre .1 .needs), (ask-solve _ _ _ _ (clauseOf (start .args .y)) _ _ (start .pre .1) (at-if1 .if1 .left) (at-if2 .if2 .left) _ (at-divide .divide .ensures .0) (at-divide .divide .kept .0) (at-divide .divide .result) (at-divide .divide .ensures .1) (at-p .p .given .0 .0) (at-p .p .given .1) _ _ _ _ (at-loop .loop .inv) (at-loop-test .loop-test .taken) _ (at-load-part .load-part .ensures .0) (at-load-part .load-part .kept .0) _ (at-load-part .load-part .ensures .1) (clauseOf (c .literals .result)) (c .literals .ensures)))
 
   enum-known-more : solve-lts.Need-enum-known-more (told t) (at t) solve.Post Inv-loop μ-loop
   enum-known-more c = search needs
@@ -213,7 +213,7 @@ module _ (t : ℕ) where
       let at-if2 = at-divide .before .before .before .before .before in
       let at-if1 = at-if2 .before in
       let start = at-if1 .before .before .before in
-      part-nodes _ _ _ _ (clauseOf (start .args .y)) _ _ (start .pre .1 .1) (at-if1 .if1 .left) (at-if2 .if2 .left) _ (at-divide .divide .ensures .0) (at-divide .divide .kept .0) (at-divide .divide .result) (at-divide .divide .ensures .1) (at-p .p .given .0 .0) (at-p .p .given .1) _ _ _ _ (at-loop .loop .inv) (at-loop-test .loop-test .taken) _ (at-load-part .load-part .ensures .0) (at-load-part .load-part .kept .0) _ (at-load-part .load-part .ensures .1) (clauseOf (at-literals .literals .result)) (at-literals .literals .ensures)
+      part-nodes _ _ _ _ (clauseOf (start .args .y)) _ _ (start .pre .1) (at-if1 .if1 .left) (at-if2 .if2 .left) _ (at-divide .divide .ensures .0) (at-divide .divide .kept .0) (at-divide .divide .result) (at-divide .divide .ensures .1) (at-p .p .given .0 .0) (at-p .p .given .1) _ _ _ _ (at-loop .loop .inv) (at-loop-test .loop-test .taken) _ (at-load-part .load-part .ensures .0) (at-load-part .load-part .kept .0) _ (at-load-part .load-part .ensures .1) (clauseOf (at-literals .literals .result)) (at-literals .literals .ensures)
       _ _ (at-solve .solve .ensures .0) (at-solve .solve .kept .0) (at-solve .solve .result) (at-solve .solve .ensures .1 .0) (at-solve .solve .ensures .1 .1) (c .enum-told2 .given .1)
 
   add-i : solve-lts.Need-add-i (told t) (at t) solve.Post Inv-loop μ-loop
@@ -239,7 +239,7 @@ module _ (t : ℕ) where
       let at-if2 = at-divide .before .before .before .before .before in
       let at-if1 = at-if2 .before in
       let start = at-if1 .before .before .before in
-      turn-again _ _ _ _ (clauseOf (start .args .y)) _ _ (start .pre .1 .1) (at-if1 .if1 .left) (at-if2 .if2 .left) _ (at-divide .divide .ensures .0) (at-divide .divide .kept .0) (at-divide .divide .result) (at-divide .divide .ensures .1) (at-p .p .given .0 .0) (at-p .p .given .1) _ _ _ _ (at-loop .loop .inv) (at-loop-test .loop-test .taken) _ (at-load-part .load-part .ensures .0) (at-load-part .load-part .kept .0) _ (at-load-part .load-part .ensures .1) (clauseOf (at-literals .literals .result)) (at-literals .literals .ensures)
+      turn-again _ _ _ _ (clauseOf (start .args .y)) _ _ (start .pre .1) (at-if1 .if1 .left) (at-if2 .if2 .left) _ (at-divide .divide .ensures .0) (at-divide .divide .kept .0) (at-divide .divide .result) (at-divide .divide .ensures .1) (at-p .p .given .0 .0) (at-p .p .given .1) _ _ _ _ (at-loop .loop .inv) (at-loop-test .loop-test .taken) _ (at-load-part .load-part .ensures .0) (at-load-part .load-part .kept .0) _ (at-load-part .load-part .ensures .1) (clauseOf (at-literals .literals .result)) (at-literals .literals .ensures)
       _ _ (at-solve .solve .ensures .0) (at-solve .solve .kept .0) (at-solve .solve .result) (at-solve .solve .ensures .1 .0) (at-solve .solve .ensures .1 .1) (at-solve .solve .kept .1 .0) _ (at-more .more .given .1)
 
   remember-requires : solve-lts.Need-remember-requires (told t) (at t) solve.Post Inv-loop μ-loop
@@ -251,8 +251,8 @@ module _ (t : ℕ) where
       let at-if2 = at-divide .before .before .before .before .before in
       let at-if1 = at-if2 .before in
       let start = at-if1 .before .before .before in
-      let a = ask-remember _ _ _ _ (clauseOf (start .args .y)) _ _ (start .pre .1 .1) (at-if1 .if1 .left) (at-if2 .if2 .left) _ (at-divide .divide .ensures .0) (at-divide .divide .kept .0) (at-divide .divide .result) (at-divide .divide .ensures .1) (at-p .p .given .0 .0) (at-p .p .given .1) _ _ _ _ (at-loop .loop .inv) (at-loop-test .loop-test .left) in
-      (start .pre .1 .0, a .0, a .1, a .2, a .3, a .4)
+      let a = ask-remember _ _ _ _ (clauseOf (start .args .y)) _ _ (start .pre .1) (at-if1 .if1 .left) (at-if2 .if2 .left) _ (at-divide .divide .ensures .0) (at-divide .divide .kept .0) (at-divide .divide .result) (at-divide .divide .ensures .1) (at-p .p .given .0 .0) (at-p .p .given .1) _ _ _ _ (at-loop .loop .inv) (at-loop-test .loop-test .left) in
+      a
 
   same-length-6 : solve-lts.Need-same-length-6 (told t) (at t) solve.Post Inv-loop μ-loop
   same-length-6 c =
@@ -276,7 +276,7 @@ module _ (t : ℕ) where
       let at-if2 = at-divide .before .before .before .before .before in
       let at-if1 = at-if2 .before in
       let start = at-if1 .before .before .before in
-      ended _ _ _ _ (clauseOf (start .args .y)) _ _ (start .pre .1 .1) (at-if1 .if1 .left) (at-if2 .if2 .left) _ (at-divide .divide .ensures .0) (at-divide .divide .kept .0) (at-divide .divide .result) (at-divide .divide .ensures .1) (at-p .p .given .0 .0) (at-p .p .given .1) _ _ _ _ (at-loop .loop .inv) (at-loop-test .loop-test .left) _ (at-remember .remember .ensures .0) (at-remember .remember .ensures .1)
+      ended _ _ _ _ (clauseOf (start .args .y)) _ _ (start .pre .1) (at-if1 .if1 .left) (at-if2 .if2 .left) _ (at-divide .divide .ensures .0) (at-divide .divide .kept .0) (at-divide .divide .result) (at-divide .divide .ensures .1) (at-p .p .given .0 .0) (at-p .p .given .1) _ _ _ _ (at-loop .loop .inv) (at-loop-test .loop-test .left) _ (at-remember .remember .ensures .0) (at-remember .remember .ensures .1)
 
 pub +solve-spec : {M : Type 1} → statement M
 +solve-spec = close μ (λ t. solve-lts.spec (told t) (at t) solve.Post Inv-loop μ-loop (returns t) (push-clause-requires t) (same-length t) (returns-2 t) (mul-f t) (mul-f-2 t) (cast-f t) (add-f t) (add-f-2 t) (mul-f-3 t) (recall-requires t) (same-length-2 t) (returns-3 t) (divide-requires t) (enum-known-p t) (enum-told t) (same-length-3 t) (returns-4 t) (loop-holds t) (load-part-requires t) (add-solve t) (literals-requires t) (solve-requires t) (enum-known-more t) (enum-told-2 t) (same-length-4 t) (same-length-5 t) (returns-5 t) (add-i t) (loop-less t) (loop-again t) (remember-requires t) (same-length-6 t) (same-length-7 t) (returns-6 t))

@@ -22,7 +22,7 @@ add-copy-in c = search needs
 copy-in-requires : tie.Need-copy-in-requires
 copy-in-requires c κs =
     let start = c .before .before .before .before in
-    ask-copy _ _ _ (start .args .i) _ (start .pre .1)
+    ask-copy _ _ _ (start .args .i) _ (start .pre)
 
 same-length : tie.Need-same-length
 same-length c = search needs
@@ -32,7 +32,7 @@ returns c =
     let at-copy-in = c .before .before in
     let at-if1 = at-copy-in .before .before in
     let start = at-if1 .before .before .before in
-    (at-copy-in .copy-in .ensures .0, core-loaded _ _ _ _ _ (start .pre .1) (at-if1 .if1 .taken) _ (at-copy-in .copy-in .ensures .1))
+    (at-copy-in .copy-in .ensures .0, core-loaded _ _ _ _ _ (start .pre) (at-if1 .if1 .taken) _ (at-copy-in .copy-in .ensures .1))
 
 mul-fix-in : tie.Need-mul-fix-in
 mul-fix-in c = search needs
@@ -43,8 +43,8 @@ add-fix-in c = search needs
 fix-in-requires : tie.Need-fix-in-requires
 fix-in-requires c κs =
     let start = c .before .before .before .before in
-    let a = ask-fix _ _ _ (start .args .i) _ (start .pre .1) in
-    (start .pre .0, a .0, a .1, a .2)
+    let a = ask-fix _ _ _ (start .args .i) _ (start .pre) in
+    a
 
 enum-known-k : tie.Need-enum-known-k
 enum-known-k c = search needs
@@ -60,7 +60,7 @@ returns-2 c =
     let at-fix-in = c .before .before .before .before in
     let at-if1 = at-fix-in .before .before in
     let start = at-if1 .before .before .before in
-    absurd (never (start .args .q) (start .args .f) (start .args .p) (start .args .i) _ (start .pre .1) (at-if1 .if1 .left) _ (at-fix-in .fix-in .result) (at-fix-in .fix-in .ensures .1) (c .enum-told .given .1))
+    absurd (never (start .args .q) (start .args .f) (start .args .p) (start .args .i) _ (start .pre) (at-if1 .if1 .left) _ (at-fix-in .fix-in .result) (at-fix-in .fix-in .ensures .1) (c .enum-told .given .1))
 
 same-length-3 : tie.Need-same-length-3
 same-length-3 c = search needs
@@ -71,7 +71,7 @@ returns-3 c =
     let at-fix-in = at-k .before .before .before .before in
     let at-if1 = at-fix-in .before .before in
     let start = at-if1 .before .before .before in
-    (at-fix-in .fix-in .ensures .0, side-loaded (start .args .q) (start .args .f) (start .args .p) (start .args .i) _ (start .pre .1) (at-if1 .if1 .left) _ (at-fix-in .fix-in .result) (at-fix-in .fix-in .ensures .1) _ (at-k .k .given .1))
+    (at-fix-in .fix-in .ensures .0, side-loaded (start .args .q) (start .args .f) (start .args .p) (start .args .i) _ (start .pre) (at-if1 .if1 .left) _ (at-fix-in .fix-in .result) (at-fix-in .fix-in .ensures .1) _ (at-k .k .given .1))
 
 pub load-part-spec : {M : Type 1} → statement M
 load-part-spec = tie.close (tie.spec mul-place mul-next add-next add-copy-in copy-in-requires same-length returns mul-fix-in add-fix-in fix-in-requires enum-known-k enum-told same-length-2 returns-2 same-length-3 returns-3)

@@ -1,5 +1,6 @@
 //! Times each operator of the proved library against the oracle on the same tables: a command of its own, and no test.
-//!   cargo run --release --offline -p differ --bin bench_operators
+//!   cargo run --release --offline -p differ --bin bench_operators [--each] [--ours NAME]
+//! `--ours` runs our side alone on the inputs whose names hold NAME, for a profiler.
 //! A ratio is the oracle's time by ours: above 1, ours is the quicker one.
 use biodivine_lib_bdd::Bdd;
 use differ::convert::to_variable;
@@ -10,9 +11,10 @@ use differ::proved_operators::call_into;
 use differ::random::Random;
 use differ::reading::Valuation;
 use differ::reading_operators::Found;
+use differ::timing::{option, report, run_ours, time, Timed};
 use std::hint::black_box;
 use std::io::Write;
-use std::time::{Duration, Instant};
+use std::time::Duration;
 
 /// Each side is timed so many times; the middle time counts.
 const TIMES: usize = 15;
@@ -32,9 +34,7 @@ impl Buffers {
     fn time(&mut self, call: &Operation) -> Duration {
         self.out.fill(0);
         self.work.fill(0);
-        let start = Instant::now();
-        assert_eq!(call_into(call, &mut self.out, &mut self.work, &mut self.reply), 1);
-        start.elapsed()
+        time(|| assert_eq!(call_into(call, &mut self.out, &mut self.work, &mut self.reply), 1))
     }
 
     /// The call that was just made came to this.
@@ -44,11 +44,6 @@ impl Buffers {
             Found::Number(number) => self.reply[..3] == [0, 0, *number],
         }
     }
-}
-
-fn middle(mut times: Vec<Duration>) -> f64 {
-    times.sort();
-    times[times.len() / 2].as_secs_f64()
 }
 
 /// Two tables over the same marks.
@@ -63,6 +58,14 @@ impl Pair {
     fn new(shape: &'static str, n: u16, meanings: [Meaning; 2]) -> Option<Pair> {
         let [a, b] = meanings.map(|meaning| Built::new(n, meaning).filter(|table| table.bdd.size() >= 50));
         Some(Pair { shape, n, tables: [a?.bdd, b?.bdd] })
+    }
+
+    fn words(&self) -> [Vec<u32>; 2] {
+        [self.tables[0].renumbered(), self.tables[1].renumbered()]
+    }
+
+    fn name(&self) -> String {
+        format!("{}, {} and {} nodes", self.shape, self.tables[0].size(), self.tables[1].size())
     }
 
     /// A mark in the middle of those that the left table depends on.
@@ -129,63 +132,28 @@ fn oracles_call(operator: Operator, [a, b]: &[Bdd; 2], mark: u16) {
 }
 
 fn time_oracle(operator: Operator, tables: &[Bdd; 2], mark: u16) -> Duration {
-    let start = Instant::now();
-    oracles_call(operator, tables, mark);
-    start.elapsed()
+    time(|| oracles_call(operator, tables, mark))
 }
 
-/// One operator on one pair.
-struct Timed {
-    shape: &'static str,
-    nodes: [usize; 2],
-    result: usize,
-    oracle: f64,
-    ours: f64,
-}
-
-impl Timed {
-    fn ratio(&self) -> f64 {
-        self.oracle / self.ours
-    }
-
-    fn show(&self) -> String {
-        let Timed { shape, nodes: [left, right], result, .. } = self;
-        let micros = |seconds: f64| format!("{:.1} us", seconds * 1e6);
-        format!("{shape}, {left} and {right} nodes to {result}: oracle {}, ours {}", micros(self.oracle), micros(self.ours))
-    }
+/// The call of an operator on a pair, its words being lent.
+fn call_on<'a>(operator: Operator, pair: &Pair, words: &'a [Vec<u32>; 2]) -> Operation<'a> {
+    let [left, right] = [Table::whole(&words[0]), Table::whole(&words[1])];
+    let space = Space { room: MOST_NODES, out: 3 * MOST_NODES, work: 12 * MOST_NODES + 192 };
+    Operation { operator, n: pair.n, left, right, mark: pair.mark(), value: 1, space }
 }
 
 /// Results first, then times, each side in turn. None where the result is over the greatest room: the oracle has none.
 fn time_pair(buffers: &mut Buffers, operator: Operator, pair: &Pair) -> Option<Timed> {
-    let words = [pair.tables[0].renumbered(), pair.tables[1].renumbered()];
-    let [left, right] = [Table::whole(&words[0]), Table::whole(&words[1])];
-    let space = Space { room: MOST_NODES, out: 3 * MOST_NODES, work: 12 * MOST_NODES + 192 };
-    let call = Operation { operator, n: pair.n, left, right, mark: pair.mark(), value: 1, space };
+    let words = pair.words();
+    let call = call_on(operator, pair, &words);
     let wanted = found(operator, &pair.tables[0], &pair.tables[1], call.mark, true);
     if wanted.size() > MOST_NODES {
         return None;
     }
     buffers.time(&call);
     assert!(buffers.holds(&wanted), "{operator:?} differs from the oracle on {} over {} marks", pair.shape, pair.n);
-    let (mut ours, mut oracle) = (vec![], vec![]);
-    for _ in 0..TIMES {
-        ours.push(buffers.time(&call));
-        oracle.push(time_oracle(operator, &pair.tables, call.mark));
-    }
-    let nodes = [left.count, right.count];
-    Some(Timed { shape: pair.shape, nodes, result: wanted.size(), oracle: middle(oracle), ours: middle(ours) })
-}
-
-fn geometric_mean(ratios: impl Iterator<Item = f64> + Clone) -> f64 {
-    let many = ratios.clone().count() as f64;
-    (ratios.map(f64::ln).sum::<f64>() / many).exp()
-}
-
-/// One line for an operator: the mean, and the pair on which ours does worst.
-fn report(operator: Operator, timed: &[Timed]) {
-    let worst = timed.iter().min_by(|a, b| a.ratio().total_cmp(&b.ratio())).expect("no pair fits the room");
-    let mean = geometric_mean(timed.iter().map(Timed::ratio));
-    println!("{:<18} mean {mean:>6.2} worst {:>6.2} of {} ({})", operator.name(), worst.ratio(), timed.len(), worst.show());
+    let input = format!("{} to {}", pair.name(), wanted.size());
+    Some(Timed::new(input, TIMES, || buffers.time(&call), || time_oracle(operator, &pair.tables, call.mark)))
 }
 
 fn compare_times(buffers: &mut Buffers) {
@@ -195,10 +163,7 @@ fn compare_times(buffers: &mut Buffers) {
     println!("ratio: the oracle's time by ours");
     for operator in Operator::ALL {
         let timed: Vec<Timed> = pairs.iter().filter_map(|pair| time_pair(buffers, operator, pair)).collect();
-        if std::env::args().any(|argument| argument == "--each") {
-            timed.iter().for_each(|timed| println!("  {:>6.2} {}", timed.ratio(), timed.show()));
-        }
-        report(operator, &timed);
+        report(operator.name(), &timed);
     }
 }
 
@@ -224,8 +189,23 @@ fn time_defeating(buffers: &mut Buffers, modulus: usize) {
     println!("{:.1} ms (oracle {:.1} ms)", ours.as_secs_f64() * 1e3, time_oracle(Operator::And, &tables, 0).as_secs_f64() * 1e3);
 }
 
+fn profile(buffers: &mut Buffers, wanted: &str) {
+    for pair in pairs() {
+        let words = pair.words();
+        for operator in Operator::ALL {
+            let name = format!("{} of {}", operator.name(), pair.name());
+            if name.contains(wanted) {
+                run_ours(&name, || buffers.time(&call_on(operator, &pair, &words)));
+            }
+        }
+    }
+}
+
 fn main() {
     let mut buffers = Buffers::new();
+    if let Some(name) = option("--ours") {
+        return profile(&mut buffers, &name);
+    }
     compare_times(&mut buffers);
     // about 460 nodes each, then about 830
     for modulus in [20, 40] {

@@ -1,0 +1,5 @@
+pub mod ListedLaws
+pub mod StoreLaws
+pub mod CountLaws
+pub mod ListLaws
+pub mod ClauseLaws

@@ -1,0 +1,4 @@
+pub mod PathLaws
+pub mod Once
+pub mod Sums
+pub mod Agrees

@@ -1,0 +1,4 @@
+pub mod ByteLaws
+pub mod HeaderLaws
+pub mod SheetLaws
+pub mod Reading

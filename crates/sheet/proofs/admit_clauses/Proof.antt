@@ -1,0 +1,85 @@
+use mathlib.Core.Path.{sym, _∙_}
+use Rattle.table.specs.Inspection.{inspectionReply}
+use Rattle.sheet.proofs.SheetLaws.{section-long, clauses-misplaced, marks-refuse, count-refuses, clause-refuses, clauses-pass}
+use borrow.Author.Needs.{needs}
+use Rattle.sheet.proofs.admit_clauses.Statement.{statement}
+use Rattle.sheet.proofs.admit_clauses.Tie as tie
+
+is-misplaced-requires : tie.Need-is-misplaced-requires
+is-misplaced-requires c κs = search needs
+
+refused-requires : tie.Need-refused-requires
+refused-requires c κs = search needs
+
+returns : tie.Need-returns
+returns c =
+    let g = c .before .before .before .before in
+    c .refused .ensures ∙ clauses-misplaced (g .args .header) (g .args .bytes .now) (sym (c .before .if1 .taken) ∙ c .before .before .is-misplaced .ensures)
+
+cast-if2 : tie.Need-cast-if2
+cast-if2 c = search needs
+
+refused-requires-2 : tie.Need-refused-requires-2
+refused-requires-2 c κs = search needs
+
+returns-2 : tie.Need-returns-2
+returns-2 c =
+    let g = c .before .before .before .before .before .before in
+    c .refused2 .ensures ∙ marks-refuse (g .args .header) (g .args .bytes .now) (sym (c .before .before .before .if1 .left) ∙ c .before .before .before .before .is-misplaced .ensures) (c .before .if2 .taken)
+
+cast-if3 : tie.Need-cast-if3
+cast-if3 c = search needs
+
+refused-requires-3 : tie.Need-refused-requires-3
+refused-requires-3 c κs = search needs
+
+returns-3 : tie.Need-returns-3
+returns-3 c =
+    let g = c .before .before .before .before .before .before .before in
+    c .refused3 .ensures ∙ count-refuses (g .args .header) (g .args .bytes .now) (sym (c .before .before .before .before .if1 .left) ∙ c .before .before .before .before .before .is-misplaced .ensures) (c .before .before .if2 .left) (c .before .if3 .taken)
+
+cast-first-malformed : tie.Need-cast-first-malformed
+cast-first-malformed c = search needs
+
+cast-first-malformed-2 : tie.Need-cast-first-malformed-2
+cast-first-malformed-2 c = search needs
+
+first-malformed-requires : tie.Need-first-malformed-requires
+first-malformed-requires c κs =
+    let g = c .before .before .before .before .before .before .before in
+    (c .before .before .if2 .left, c .before .if3 .left, section-long (g .args .header) (g .args .bytes .now) (g .pre) _ _ _ _ _ (sym (c .before .before .before .before .if1 .left) ∙ c .before .before .before .before .before .is-misplaced .ensures))
+
+cast-if4 : tie.Need-cast-if4
+cast-if4 c = search needs
+
+returns-4 : tie.Need-returns-4
+unfolding inspectionReply
+returns-4 c =
+    let g = c .before .before .before .before .before .before .before .before .before in
+    clause-refuses (g .args .header) (g .args .bytes .now) (sym (c .before .before .before .before .before .before .if1 .left) ∙ c .before .before .before .before .before .before .before .is-misplaced .ensures) (c .before .before .before .before .if2 .left) (c .before .before .before .if3 .left) _ (c .before .first-malformed .ensures) (c .if4 .taken)
+
+returns-5 : tie.Need-returns-5
+unfolding inspectionReply
+returns-5 c =
+    let g = c .before .before .before .before .before .before .before .before .before in
+    clauses-pass (g .args .header) (g .args .bytes .now) (sym (c .before .before .before .before .before .before .if1 .left) ∙ c .before .before .before .before .before .before .before .is-misplaced .ensures) (c .before .before .before .before .if2 .left) (c .before .before .before .if3 .left) _ (c .before .first-malformed .ensures) (c .if4 .left)
+
+pub admit-clauses-spec : {M : Type 1} → statement M
+admit-clauses-spec =
+    tie.close
+    (tie.spec
+    is-misplaced-requires
+    refused-requires
+    returns
+    cast-if2
+    refused-requires-2
+    returns-2
+    cast-if3
+    refused-requires-3
+    returns-3
+    cast-first-malformed
+    cast-first-malformed-2
+    first-malformed-requires
+    cast-if4
+    returns-4
+    returns-5)

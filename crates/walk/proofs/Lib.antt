@@ -1,0 +1,11 @@
+pub mod ReachLaws
+pub mod ReducedLaws
+pub mod CheckLaws
+pub mod PathLaws
+pub mod StartLaws
+pub mod LentOut
+pub mod NextCall
+pub mod Ways
+pub mod KthLaws
+pub mod Sounds
+pub mod WalkSingle

@@ -1,0 +1,36 @@
+//! The proved library's extractors, called with lent output and work that are filled with rubbish and come back whole.
+use crate::answer::Outcome;
+use crate::extracting::{Extraction, Extractor};
+use crate::proved::{entries, Room, Writable};
+
+entries!(OnTable(
+    n: u16,
+    count: usize,
+    nodes: *const u32,
+    nodes_len: usize,
+    out: *mut u64,
+    out_len: usize,
+    work: *mut u32,
+    work_len: usize,
+    reply: *mut u64,
+    reply_len: usize,
+): collartug_to_dnf, collartug_to_cnf);
+
+fn raw(call: &Extraction, out: Writable<u64>, work: Writable<u32>, reply: Writable<u64>) -> u64 {
+    let entry: OnTable = match call.extractor {
+        Extractor::Dnf => collartug_to_dnf,
+        Extractor::Cnf => collartug_to_cnf,
+    };
+    let (n, t) = (call.n, call.table);
+    unsafe { entry(n, t.count, t.nodes.as_ptr(), t.nodes.len(), out.0, out.1, work.0, work.1, reply.0, reply.1) }
+}
+
+/// Makes a call; it comes back with the reply, then the output and the work.
+pub fn call(reply: Room, call: &Extraction) -> Outcome {
+    reply.call_listing(call.out, call.work, |out, work, reply| raw(call, out, work, reply))
+}
+
+/// Makes a call on buffers that the caller keeps: for measuring. All of each is lent, whatever the call says.
+pub fn call_into(call: &Extraction, out: &mut [u64], work: &mut [u32], reply: &mut [u64]) -> u64 {
+    raw(call, (out.as_mut_ptr(), out.len()), (work.as_mut_ptr(), work.len()), (reply.as_mut_ptr(), reply.len()))
+}
