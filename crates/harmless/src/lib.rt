@@ -14,15 +14,15 @@ fn slot_of(w: &[u32], q: Size, a: usize, k: u32) -> usize
     requires { ⌜ Keeping (now w) q a k ⌝ }
     ensures { λ r. ⌜ Slot q r ⌝ }
 {
-    let slots = 3 * (q.n as usize + 2);
+    let slots = 3 * (q.n as u32 + 2);
     let end = NODE_WORDS * (k as usize);
-    let mut sum: usize = 0;
+    let mut sum: u32 = 0;
     let mut i: usize = 0;
     while i < end {
-        sum = (31 * sum + w[a + i] as usize) % slots;
+        sum = (31 * sum + w[a + i] % slots) % slots;
         i += 1;
     }
-    (1 + NODE_WORDS * q.wide) * sum
+    (1 + NODE_WORDS * q.wide) * (sum as usize)
 }
 
 // Are n words the same?

@@ -45,7 +45,9 @@ store-words-requires c κs =
 same-length : tie.Need-same-length
 same-length c =
     let at-store-words = c .before .before in
-    at-store-words .store-words .kept .0 ∙ length-set _ _ _
+    let at-slot-of = at-store-words .before .before in
+    let start = at-slot-of .before .before .before in
+    at-store-words .store-words .kept .0 ∙ length-set (start .args .w .now) (at-slot-of .slot-of .result) (start .args .k)
 
 returns : tie.Need-returns
 returns c =

@@ -73,7 +73,8 @@ loop-again : tie.Need-loop-again Inv-loop μ-loop
 loop-again c =
     let at-loop-test = c .before .before .before in
     let at-loop = at-loop-test .before in
-    (omega (arith, at-loop-test .loop-test .taken), same-next _ _ _ _ (at-loop .loop .inv .1) (c .if1 .left))
+    let start = at-loop .before in
+    (omega (arith, at-loop-test .loop-test .taken), same-next (start .args .w .now) (start .args .a) (start .args .b) (at-loop .loop .i) (at-loop .loop .inv .1) (c .if1 .left))
 
 returns-2 : tie.Need-returns-2 Inv-loop μ-loop
 returns-2 c =

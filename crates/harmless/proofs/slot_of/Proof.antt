@@ -1,9 +1,10 @@
 use borrow.Author.Needs.{needs}
 -- `slot_of`: a sum over the words, less than the number of slots.
 use mathlib.Core.Path.{refl}
-use Prim.Native.Nat.{ℕ, _+_, _*_, _-_, _<_, _≤_}
+use Prim.Native.Nat.{ℕ, _+_, _*_, _-_, _%_, _<_, _≤_}
 use native.Mathlib.Omega.{arith}
 use native.Mathlib.Nat.{mod-lt}
+use lib.ListN.{getD}
 use Rattle.harmless.proofs.SlotLaws.{slot-small}
 -- (head ends)
 use Rattle.harmless.proofs.slot_of.Statement.{statement}
@@ -61,17 +62,19 @@ shared-slice-read-sum c =
     let start = at-loop .before .before in
     omega (arith, start .pre .held .tab .lies, at-loop .loop .inv .1, at-loop-test .loop-test .taken)
 
-cast-sum : tie.Need-cast-sum Inv-loop μ-loop
-cast-sum c = search needs
+rem-sum : tie.Need-rem-sum Inv-loop μ-loop
+rem-sum c = search needs
 
 add-sum-2 : tie.Need-add-sum-2 Inv-loop μ-loop
 add-sum-2 c =
     let at-loop = c .before .before in
     let start = at-loop .before .before in
-    omega (arith, at-loop .loop .inv .0, start .pre .marks)
+    let pos : 0 < 3 * (start .args .q .n + 2) = omega arith in
+    let low : getD (start .args .w .now) (start .args .a + at-loop .loop .i) 0 % (3 * (start .args .q .n + 2)) < 3 * (start .args .q .n + 2) = mod-lt (getD (start .args .w .now) (start .args .a + at-loop .loop .i) 0) pos in
+    omega (arith, at-loop .loop .inv .0, start .pre .marks, low)
 
-rem-sum : tie.Need-rem-sum Inv-loop μ-loop
-rem-sum c = search needs
+rem-sum-2 : tie.Need-rem-sum-2 Inv-loop μ-loop
+rem-sum-2 c = search needs
 
 add-i : tie.Need-add-i Inv-loop μ-loop
 add-i c =
@@ -97,6 +100,12 @@ mul-result c = search needs
 add-result : tie.Need-add-result Inv-loop μ-loop
 add-result c = search needs
 
+cast-result : tie.Need-cast-result Inv-loop μ-loop
+cast-result c =
+    let at-loop = c .before .before in
+    let start = at-loop .before .before in
+    omega (arith, at-loop .loop .inv .0, start .pre .marks)
+
 mul-result-2 : tie.Need-mul-result-2 Inv-loop μ-loop
 mul-result-2 c =
     let at-loop = c .before .before in
@@ -109,4 +118,4 @@ returns c =
     record { index = at-loop .loop .sum; less = at-loop .loop .inv .0; is = refl }
 
 pub slot-of-spec : {M : Type 1} → statement M
-slot-of-spec = tie.close (tie.spec Inv-loop μ-loop cast-slots add-slots mul-slots mul-end loop-holds mul-sum add-sum mul-sum-2 shared-slice-read-sum cast-sum add-sum-2 rem-sum add-i loop-less loop-again mul-result add-result mul-result-2 returns)
+slot-of-spec = tie.close (tie.spec Inv-loop μ-loop cast-slots add-slots mul-slots mul-end loop-holds mul-sum add-sum mul-sum-2 shared-slice-read-sum rem-sum add-sum-2 rem-sum-2 add-i loop-less loop-again mul-result add-result cast-result mul-result-2 returns)
