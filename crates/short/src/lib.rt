@@ -72,10 +72,7 @@ fn reduce_in(
 }
 
 fn over(number: u8) -> Written {
-    Written::Over(Refusal {
-        number,
-        place: 0,
-    })
+    Written::Over(Refusal { number, place: 0 })
 }
 
 // The memory is emptied, the table reduced into the first frame, and its short list made.
@@ -102,7 +99,17 @@ fn write_short(
     };
     frame::clear_in(work, 0, first);
     let mut memo = [0u32; 4096];
-    let Tabled::Count(k) = reduce_in(work, first, first + NODE_WORDS * wide, n, count, bdd, root, room, &mut memo) else {
+    let Tabled::Count(k) = reduce_in(
+        work,
+        first,
+        first + NODE_WORDS * wide,
+        n,
+        count,
+        bdd,
+        root,
+        room,
+        &mut memo,
+    ) else {
         return over(NODES);
     };
     match trimming::short_list(work, out, q, k as u32) {

@@ -27,6 +27,9 @@ beq-not true false n = refl
 beq-not false true n = refl
 beq-not false false n = absurd (n refl)
 
+pub value-differs : (v b : Bool) → v ≡ false → b ≡ true → v ≢ b
+value-differs v b e d z = let y : _≡_ {A = ℕ} 0 1 = ap (λ t. cond t 1 0) (sym e ∙ z ∙ d) in omega arith
+
 pub other-value : (x : ℕ) (b : Bool) (y : Clause) (f v : Bool) → f ≡ bit x (y .fixed) → f ≡ true → v ≡ bit x (y .values) → v ≢ b → y ≡ cleared x b y
 unfolding cleared
 other-value x b y f v ef t ev n = rw (sym ef ∙ t, beq-not (bit x (y .values)) b (λ e. n (ev ∙ e)))

@@ -37,6 +37,17 @@ trimmed-long F (x ∷ xs) ys =
     ∙ either (λ zs. length zs ≡ length ys) (spare F x false) (map (cleared x false) ys) _ (map-long (cleared x false) ys)
     (either (λ zs. length zs ≡ length ys) (spare F x true) (map (cleared x true) ys) ys (map-long (cleared x true) ys) refl)
 
+none-is : clause 0 0 ≡ emptyClause
+unfolding emptyClause
+none-is = refl
+
+-- where the first frame stands
+pub first-is : (q : Size) → 4 * stride * q .wide * (q .n + 2) ≡ frameAt q 0
+first-is q = let e : q .n + 2 ≡ q .n + 2 + 0 = omega arith in ap (λ i. 4 * stride * q .wide * i) e
+
+pub first-fits : (q : Size) (kf : ℕ) (w : List ℕ) → ListReady w q kf → 4 * stride * q .wide * (q .n + 2) ≤ length w
+first-fits q kf w pre = omega (arith, first-is q, pre .held .tab .lies)
+
 module _ (q : Size) (kf : ℕ) (w out : List ℕ) (pre : ListReady w q kf) where
   start-out : Out out 0 []
   unfolding clauseWords
@@ -62,7 +73,10 @@ module _ (q : Size) (kf : ℕ) (w out : List ℕ) (pre : ListReady w q kf) where
   unfolding shortFits allFit
   own-fits F v t e = rw (fits-yes (q .room) (q .n) kf F (t .count) (pre .fits)) e
 
-  module _ (w₁ out₁ : List ℕ) (e₁ : Same q (frameAt q 0 + place q) w w₁) (l₁ : length w₁ ≡ length w) (r₁ : Solved) (s₁ : Solves w out out₁ q 0 kf emptyClause 0 r₁) where
+  module _ (w₁ out₁ : List ℕ) (e₁ : Same q (frameAt q 0 + place q) w w₁) (l₁ : length w₁ ≡ length w) (r₁ : Solved) (s₀ : Solves w out out₁ q 0 kf (clause 0 0) 0 r₁) where
+    s₁ : Solves w out out₁ q 0 kf emptyClause 0 r₁
+    s₁ = subst (λ y. Solves w out out₁ q 0 kf y 0 r₁) none-is s₀
+
     answer : (F : Tree) → Tab (q .n) w (frameAt q 0) kf F → (z : Solved) → r₁ ≡ z → SolveAnswers q (q .n + 1) F emptyClause [] out₁ z
     answer F t z e =
         let n : q .n + 1 - 0 ≡ q .n + 1 = omega arith in

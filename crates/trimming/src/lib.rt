@@ -29,7 +29,13 @@ fn clear_literal(y: BddPartialValuation, m: BddVariable, value: bool) -> BddPart
     if !valuation::has_bit(y.fixed, m) {
         return y;
     }
-    if valuation::has_bit(y.values, m) != value {
+    if value {
+        if !valuation::has_bit(y.values, m) {
+            return y;
+        }
+        return valuation::without_bit(y, m);
+    }
+    if valuation::has_bit(y.values, m) {
         return y;
     }
     valuation::without_bit(y, m)
