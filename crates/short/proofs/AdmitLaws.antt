@@ -4,12 +4,14 @@ use mathlib.Core.Bool.{Bool, true, false}
 use mathlib.Core.List.{List, [], _∷_}
 use Prim.Native.Nat.{ℕ, _+_, _*_, _-_, _≤_, max}
 use native.Mathlib.Omega.{arith}
+use native.Mathlib.Nat.{mul-le-mul-left}
+use Rattle.refusal.specs.Limits.{maxMarks, maxNodes}
 use lib.Dec.{ltb}
 use lib.ListN.{length}
 use borrow.Author.Tests.{ltb-false}
 use Rattle.refusal.specs.Number.{order, LIMIT, SHORT}
 use Rattle.refusal.specs.Buffers.{zeroing}
-use Rattle.refusal.specs.Verdict.{firstOf, tried, judged, replied, refusedWith, gives}
+use Rattle.refusal.specs.Verdict.{Finding, firstOf, tried, judged, replied, refusedWith, gives}
 use Rattle.refusal.proofs.Judged.{Clean, Quiet, passes}
 use Rattle.table.specs.declared.BddPointer.{BddPointer}
 use Rattle.table.specs.declared.Inspection.{Inspection}
@@ -19,6 +21,18 @@ use Rattle.table.proofs.AdmissionLaws.{admission-clean, sound-table}
 use Rattle.making.specs.Room.{overRoom}
 use Rattle.making.proofs.RoomLaws.{roomy}
 use Rattle.short.specs.Short.{deepWork, shortDeep, shortFindings, Shortening}
+
+pub deep-is : (widest n : ℕ) (work : List ℕ) → ltb (length work) (24 * widest * (n + 2) + 192) ≡ shortDeep widest n work
+unfolding shortDeep
+deep-is widest n work = refl
+
+pub deep-fits : (widest n : ℕ) → widest ≤ maxNodes → n ≤ maxMarks → 24 * widest * (n + 2) ≤ 6094848
+deep-fits widest n h k = omega (arith, mul-le-mul-left {m = n + 2} {n = 62} (24 * widest) (omega arith))
+
+-- admitted, the entry would answer the root
+clean-answers : (fs : List Finding) (count : ℕ) → Clean (judged fs) → gives ((count - 1) ∷ []) ≡ replied (judged fs (rootOf count))
+unfolding replied
+clean-answers fs count clean = sym (ap replied (clean (rootOf count)))
 
 module _ (n count : ℕ) (words : List ℕ) (room : ℕ) (work : List ℕ) where
   pub short-limit : true ≡ overLimit n count → refusedWith LIMIT 0 ≡ replied (judged (shortFindings n count words room work) (rootOf count))
@@ -53,7 +67,7 @@ module _ (n count : ℕ) (words : List ℕ) (room : ℕ) (work : List ℕ) where
   unfolding judged tried order firstOf shortDeep
   short-admitted a e p is =
       let c : Clean (judged (shortFindings n count words room work)) × (p .0 ≡ count - 1) = admission-clean (shortFindings n count words room work) count a e p is in
-      let v : gives ((count - 1) ∷ []) ≡ replied (judged (shortFindings n count words room work) (rootOf count)) = clean-answers (c .0) in
+      let v : gives ((count - 1) ∷ []) ≡ replied (judged (shortFindings n count words room work) (rootOf count)) = clean-answers (shortFindings n count words room work) count (c .0) in
       let p₁ : (overLimit n count ≡ false) × (gives ((count - 1) ∷ []) ≡ replied _) = passes _ _ _ _ _ _ v in
       let p₂ : (overRoom room ≡ false) × (gives ((count - 1) ∷ []) ≡ replied _) = passes _ _ _ _ _ _ (p₁ .1) in
       let p₃ : (tooShort count words ≡ false) × (gives ((count - 1) ∷ []) ≡ replied _) = passes _ _ _ _ _ _ (p₂ .1) in
@@ -63,6 +77,3 @@ module _ (n count : ℕ) (words : List ℕ) (room : ℕ) (work : List ℕ) where
         rooms = roomy room (sym (p₂ .0));
         long = ltb-false _ _ (p₄ .0);
       }
-    where
-      clean-answers : Clean (judged (shortFindings n count words room work)) → gives ((count - 1) ∷ []) ≡ replied (judged (shortFindings n count words room work) (rootOf count))
-      clean-answers clean = sym (ap replied (clean (rootOf count)))

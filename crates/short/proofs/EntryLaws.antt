@@ -5,7 +5,7 @@ use mathlib.Core.Bool.{Bool, true, false, cond, not, _&&_}
 use mathlib.Core.List.{List, [], _∷_, _++_}
 use Prim.Native.Nat.{ℕ, zero, suc, _+_, _*_, _-_, _/_, _≤_, _<_, max}
 use native.Mathlib.Omega.{arith}
-use native.Mathlib.Nat.{mul-le-mul-left}
+use native.Mathlib.Nat.{mul-le-mul-left, mul-assoc, mul-suc}
 use lib.Dec.{ltb, leb}
 use lib.ListN.{length, take, drop, getD, replicate}
 use borrow.Author.Tests.{lt-ltb, le-ltb, ltb-true, ltb-false, lt-leb}
@@ -61,28 +61,148 @@ unfolding zeroing
 clauses-over n count words room out out′ e h = record { refuses = λ v. overs-decide n room (meaning n (nodes count words)) out v ∙ rw (e, lt-ltb (capacity out) (length (shortList n (meaning n (nodes count words)))) h); zeroes = refl }
 
 -- ---- zeros
-zeros-at : (k i : ℕ) → getD (replicate k 0) i 0 ≡ 0
+zeros-at : (k i : ℕ) → _≡_ {A = ℕ} (getD (replicate {A = ℕ} k 0) i 0) 0
 zeros-at zero i = refl
 zeros-at (suc k) zero = refl
 zeros-at (suc k) (suc i) = zeros-at k i
 
 -- ---- the core
-abbrev pub sizeOf : ℕ → ℕ → ℕ → Size
-sizeOf n count room = record { n = n; room = room; wide = max room count; mem = 4 * stride * max room count * (2 * n + 3) }
+module _ (n count : ℕ) (words : List ℕ) (root room : ℕ) (work : List ℕ) (pre : Shortening n count words root room work) (W : ℕ) (eW : W ≡ max room count) where
+  first : ℕ
+  first = 4 * stride * W * (n + 2)
 
-module _ (n count : ℕ) (words : List ℕ) (root room : ℕ) (work : List ℕ) (pre : Shortening n count words root room work) where
-  f : Tree
-  f = meaning n (nodes count words)
+  abbrev size : Size
+  size = record { n = n; room = room; wide = W; mem = 4 * stride * W * (2 * n + 3) }
 
-  wide : max room count ≤ maxNodes
-  wide = omega (arith, pre .rooms .few, pre .table .few)
+  pub few : W ≤ maxNodes
+  few = omega (arith, pre .rooms .few, pre .table .few)
 
-  q : Size
-  q = sizeOf n count room
+  -- n + 2 blocks of memory, n + 1 frames, and one block for the operations
+  all-blocks : 4 * stride * W * (2 * n + 4) ≤ length work
+  all-blocks =
+      let a : 2 * n + 4 ≡ 2 * (n + 2) = omega arith in
+      let b : 4 * stride * W * 2 ≡ 24 * W = omega arith in
+      let e : 4 * stride * W * (2 * n + 4) ≡ 24 * W * (n + 2) = ap (λ i. 4 * stride * W * i) a ∙ sym (mul-assoc (4 * stride * W) 2 (n + 2)) ∙ ap (λ x. x * (n + 2)) b in
+      let d : 24 * W * (n + 2) ≡ 24 * max room count * (n + 2) = ap (λ x. 24 * x * (n + 2)) eW in
+      omega (arith, pre .long)
 
-  -- the blocks: n + 2 of memory, n + 1 frames, one for the operations
-  blocks : (i : ℕ) → i ≤ 2 * n + 4 → 4 * stride * max room count * i ≤ 4 * stride * max room count * (2 * n + 4)
-  blocks i h = mul-le-mul-left {m = i} {n = 2 * n + 4} (4 * stride * max room count) h
+  pub mem-within : 4 * stride * W * (2 * n + 3) + 12 * W ≤ length work
+  mem-within =
+      let a : 2 * n + 4 ≡ suc (2 * n + 3) = omega arith in
+      let e : 4 * stride * W * (2 * n + 4) ≡ 4 * stride * W * (2 * n + 3) + 4 * stride * W = ap (λ i. 4 * stride * W * i) a ∙ mul-suc (4 * stride * W) (2 * n + 3) in
+      omega (arith, all-blocks)
 
-  pub all-blocks : 4 * stride * max room count * (2 * n + 4) ≤ length work
-  all-blocks = let e : 4 * stride * max room count * (2 * n + 4) ≡ 24 * max room count * (n + 2) = ?mul in omega (arith, pre .long)
+  pub first-within : 4 * stride * W * (n + 2) + stride * W ≤ length work
+  first-within = omega (arith, mem-within, mul-le-mul-left {m = n + 2} {n = 2 * n + 3} (4 * stride * W) (omega arith))
+
+  frame-zero : frameAt size 0 ≡ 4 * stride * W * (n + 2)
+  frame-zero = let e : n + 2 + 0 ≡ n + 2 = omega arith in ap (λ i. 4 * stride * W * i) e
+
+  module _ (w₁ : List ℕ) (l₁ : length w₁ ≡ length work) (zero₁ : part 0 (4 * stride * W * (n + 2)) w₁ ≡ padded (take 0 (part 0 (4 * stride * W * (n + 2)) work)) (length (part 0 (4 * stride * W * (n + 2)) work))) where
+    empty : (i : ℕ) → getD (take (4 * stride * W * (n + 2)) w₁) i 0 ≡ 0
+    unfolding padded
+    empty i =
+        let e : 4 * stride * W * (n + 2) ≡ 4 * stride * W * (n + 2) - 0 = omega arith in
+        ap (λ (z : ℕ). getD (take z w₁) i 0) e ∙ ap (λ (v : List ℕ). getD v i 0) zero₁ ∙ zeros-at (length (part 0 (4 * stride * W * (n + 2)) work) - 0) i
+
+    pub ask-reduce : (memo : List ℕ) → length memo ≡ 4096 → (4 * stride * W * (n + 2) ≤ 4 * stride * W * (n + 2) + stride * W) × (4 * stride * W * (n + 2) + stride * W ≤ length w₁)
+        × Placing words (part (4 * stride * W * (n + 2)) (4 * stride * W * (n + 2) + stride * W) w₁) memo n count root room
+    ask-reduce memo lm = (
+      omega arith,
+      omega (arith, first-within),
+      record {
+        table = pre .table;
+        some = pre .rooms .some;
+        few = omega (arith, pre .rooms .few);
+        long = omega (arith, part-long (4 * stride * W * (n + 2)) (4 * stride * W * (n + 2) + stride * W) w₁ (omega (arith, first-within)), eW);
+        wide = omega (arith, pre .table .few);
+      },
+    )
+
+    module _ (w₂ : List ℕ) (l₂ : length w₂ ≡ length w₁) (kept : Kept w₁ w₂ (4 * stride * W * (n + 2)) (4 * stride * W * (n + 2) + stride * W)) (r : Tabled)
+        (left : CanonLeft n room (meaning n (nodes count words)) (part (4 * stride * W * (n + 2)) (4 * stride * W * (n + 2) + stride * W) w₂) r) where
+      pub table-over : (p : ℕ) → r ≡ tabled.Over p → (out out′ : List ℕ) → ListsShort n count words room out out′ (Over (record { number = NODES; place = 0 }))
+      unfolding shortFits allFit
+      table-over p e out out′ =
+          let a : (ltb room (length (canon n (meaning n (nodes count words)))) ≡ true) × (0 ≡ p) = subst (CanonLeft n room (meaning n (nodes count words)) _) e left in
+          nodes-over n count words room out out′ (rw (lt-leb (length (canon n (meaning n (nodes count words)))) room (ltb-true room (length (canon n (meaning n (nodes count words)))) (a .0))))
+
+      module _ (k : ℕ) (is : r ≡ tabled.Count k) where
+        made : (stride * k ≤ length (part (4 * stride * W * (n + 2)) (4 * stride * W * (n + 2) + stride * W) w₂))
+            × (nodes k (part (4 * stride * W * (n + 2)) (4 * stride * W * (n + 2) + stride * W) w₂) ≡ canon n (meaning n (nodes count words))) × (ltb room (length (canon n (meaning n (nodes count words)))) ≡ false)
+        made = subst (CanonLeft n room (meaning n (nodes count words)) (part (4 * stride * W * (n + 2)) (4 * stride * W * (n + 2) + stride * W) w₂)) is left
+
+        pub small : k ≤ room
+        small = omega (arith, ltb-false room (length (canon n (meaning n (nodes count words)))) (made .2), ap length (made .1), length-nodes k (part (4 * stride * W * (n + 2)) (4 * stride * W * (n + 2) + stride * W) w₂))
+
+        deep : Deep n (meaning n (nodes count words))
+        unfolding meaning
+        deep = treeOf-deep n (nodes count words) 0 (length (nodes count words) - 1)
+
+        tab : Tab n w₂ (frameAt size 0) k (meaning n (nodes count words))
+        tab = subst (λ o. Tab n w₂ o k (meaning n (nodes count words))) (sym frame-zero)
+            (tab-made n w₂ (4 * stride * W * (n + 2)) (4 * stride * W * (n + 2) + stride * W) k (meaning n (nodes count words)) deep (omega arith) (omega (arith, first-within))
+            (omega (arith, made .0, part-long (4 * stride * W * (n + 2)) (4 * stride * W * (n + 2) + stride * W) w₂ (omega (arith, first-within)))) (made .1))
+
+        pub ask-list : ListReady w₂ size k
+        ask-list = record {
+          held = record { tree = meaning n (nodes count words); tab = tab };
+          fits = small;
+          frames = let e : n + 2 + (n + 1) ≡ 2 * n + 3 = omega arith in omega (arith, ap (λ i. 4 * stride * W * i) e);
+          mem = omega (arith, mem-within);
+          room = omega (arith, eW);
+          some = pre .rooms .some;
+          few = few;
+          marks = pre .table .marks;
+          known = subst (λ h. Remembers size h) (sym (ap (λ i. take i w₂) frame-zero ∙ kept .front)) (none-known size (take (4 * stride * W * (n + 2)) w₁) empty);
+        }
+
+        module _ (out out′ : List ℕ) (lo : length out′ ≡ length out) (s : Shortened) (sh : Shortens w₂ out′ size k s) where
+          answer : (z : Shortened) → s ≡ z → Answers size (meaning n (nodes count words)) out′ z
+          answer z e = subst (λ z. Answers size (meaning n (nodes count words)) out′ z) e (sh (meaning n (nodes count words)) tab)
+
+          pub done-nodes : s ≡ shortened.Nodes → ListsShort n count words room out out′ (Over (record { number = NODES; place = 0 }))
+          done-nodes e = nodes-over n count words room out out′ (answer shortened.Nodes e)
+
+          pub done-many : s ≡ shortened.TooMany → ListsShort n count words room out out′ (Over (record { number = CLAUSES; place = 0 }))
+          done-many e = let a : Answers size (meaning n (nodes count words)) out′ shortened.TooMany = answer shortened.TooMany e in clauses-over n count words room out out′ (a .0) (omega (arith, a .1))
+
+          pub done-clauses : (c : ℕ) → s ≡ shortened.Clauses c → ListsShort n count words room out out′ (Count c)
+          done-clauses c e =
+              let a : Answers size (meaning n (nodes count words)) out′ (shortened.Clauses c) = answer (shortened.Clauses c) e in
+              record {
+                fits = a .1;
+                number = sym (a .2 .number);
+                words = a .2 .words;
+                clean = λ v. overs-decide n room (meaning n (nodes count words)) out v
+                    ∙ rw (a .0, le-ltb (capacity out) (length (shortList n (meaning n (nodes count words)))) (omega (arith, a .1, a .2 .number)));
+              }
+
+-- ---- the entry
+abbrev pub Equations : Verdict → Listed → List ℕ → List ℕ → List ℕ → List ℕ → Type 0
+Equations v r out out′ work work′ = (listedReply r ≡ replied v) × ((out′ ≡ outputAfter 0 v out) × (work′ ≡ workAfter v work))
+
+equations : (v : Verdict) (r : Listed) (out out′ work work′ : List ℕ) → Outcome v r out out′ work work′ → Equations v r out out′ work work′
+equations v r out out′ work work′ o = (o .reply, (o .output, o .memory))
+
+module _ (n count : ℕ) (words : List ℕ) (room : ℕ) (out work : List ℕ) (a : Inspection) (e : inspectionReply a ≡ replied (judged (shortFindings n count words room work) (rootOf count))) where
+  pub entry-refused : (r s : Refusal) → a ≡ Refused r → s ≡ refusalIn a → Equations (listsShort n count words room out work) (listed.Refused s) out out work work
+  entry-refused r s is-r is-s =
+      equations _ _ _ _ _ _
+      (lists-refused (shortFindings n count words room work) (shortOvers n room (meaning n (nodes count words)) out) (shortList n (meaning n (nodes count words))) (short-quiet n count words room work) s
+      (admission-refused (shortFindings n count words room work) count a e r s is-r is-s) out work)
+
+  module _ (p : BddPointer) (is : a ≡ Sound p) where
+    pub entry-table : Shortening n count words (p .0) room work
+    entry-table = short-admitted n count words room work a e p is
+
+    module _ (out₁ : List ℕ) (written : Written) (left : ListsShort n count words room out out₁ written) where
+      pub entry-settling : Settling written out₁
+      entry-settling = settling (shortOvers n room (meaning n (nodes count words)) out) (shortList n (meaning n (nodes count words))) out₁ written left
+
+      pub entry-settled : (out′ work₁ work′ : List ℕ) → length out₁ ≡ length out → length work₁ ≡ length work → (r : Listed) → Settles written out₁ out′ work₁ work′ r
+          → Equations (listsShort n count words room out work) r out out′ work work′
+      entry-settled out′ work₁ work′ same-out same-work r settled =
+          equations _ _ _ _ _ _
+          (lists-settled (shortFindings n count words room work) (shortOvers n room (meaning n (nodes count words)) out) (shortList n (meaning n (nodes count words))) (admission-clean (shortFindings n count words room work) count a e p is .0)
+          out₁ out out′ work₁ work work′ same-out same-work written r left settled)

@@ -71,10 +71,6 @@ fn reduce_in(
     carry::reduce(n, count, bdd, root, room, &mut w[start..end], memo)
 }
 
-fn over(number: u8) -> Written {
-    Written::Over(Refusal { number, place: 0 })
-}
-
 // The memory is emptied, the table reduced into the first frame, and its short list made.
 fn write_short(
     n: u16,
@@ -110,12 +106,21 @@ fn write_short(
         room,
         &mut memo,
     ) else {
-        return over(NODES);
+        return Written::Over(Refusal {
+            number: NODES,
+            place: 0,
+        });
     };
     match trimming::short_list(work, out, q, k as u32) {
         Shortened::Clauses(c) => Written::Count(c),
-        Shortened::Nodes => over(NODES),
-        Shortened::TooMany => over(CLAUSES),
+        Shortened::Nodes => Written::Over(Refusal {
+            number: NODES,
+            place: 0,
+        }),
+        Shortened::TooMany => Written::Over(Refusal {
+            number: CLAUSES,
+            place: 0,
+        }),
     }
 }
 

@@ -1,9 +1,7 @@
-use borrow.Author.Needs.{needs}
 -- `core_step`: the for-all is too large, has more cases, or has not.
+use borrow.Author.Needs.{needs}
 use native.Mathlib.Omega.{arith}
 use Rattle.dividing.proofs.CoreLaws.{ask-all, step-over, ask-cases, ask-copy, step-more, step-less}
--- (head ends)
-use borrow.Author.Needs.{needs}
 use Rattle.dividing.proofs.core_step.Statement.{statement}
 use Rattle.dividing.proofs.core_step.Tie as tie
 use Rattle.dividing.proofs.core_step.Reads as reads
@@ -12,44 +10,35 @@ use Rattle.frame.proofs.copy_in.Reads as copy-in-reads
 use Rattle.frame_join.proofs.all_in.Reads as all-in-reads
 use Rattle.frame_counts.proofs.cases_in.Reads as cases-in-reads
 
--- src/lib.rt:46:17
 mul-place : tie.Need-mul-place
 mul-place c = search needs
 
--- src/lib.rt:47:21
 mul-tried : tie.Need-mul-tried
 mul-tried c = search needs
 
--- src/lib.rt:47:17
 add-tried : tie.Need-add-tried
 add-tried c = search needs
 
--- src/lib.rt:48:27
 all-in-requires : tie.Need-all-in-requires
 all-in-requires c κs =
     let start = c .before .before .before in
     ask-all _ _ _ (start .args .m .0) (start .args .kc) (start .args .most) _ (start .pre .0) (start .pre .1)
 
--- src/lib.rt:48:21
 enum-known-ke : tie.Need-enum-known-ke
 enum-known-ke c = search needs
 
--- src/lib.rt:49:9
 enum-told : tie.Need-enum-told
 enum-told c = search needs
 
--- src/lib.rt:49:9
 same-length : tie.Need-same-length
 same-length c = search needs
 
--- src/lib.rt:49:9
 returns : tie.Need-returns
 returns c =
     let at-all-in = c .before .before .before .before in
     let start = at-all-in .before .before .before .before in
     step-over _ _ _ _ _ _ _ (start .pre .0) (start .pre .1) _ (at-all-in .all-in .ensures .0) (at-all-in .all-in .kept .0) _ (at-all-in .all-in .ensures .1) (c .enum-told .given .1)
 
--- src/lib.rt:51:9
 cases-in-requires : tie.Need-cases-in-requires
 cases-in-requires c κs =
     let at-ke = c .before .before in
@@ -57,11 +46,9 @@ cases-in-requires c κs =
     let start = at-all-in .before .before .before .before in
     ask-cases _ _ _ _ (start .args .kc) (start .args .most) _ (start .pre .0) (start .pre .1) _ (at-all-in .all-in .ensures .0) (at-all-in .all-in .kept .0) _ (at-all-in .all-in .ensures .1) _ (at-ke .ke .given .1)
 
--- src/lib.rt:53:41
 add-copy-in : tie.Need-add-copy-in
 add-copy-in c = search needs
 
--- src/lib.rt:53:9
 copy-in-requires : tie.Need-copy-in-requires
 copy-in-requires c κs =
     let at-cases-in = c .before .before .before .before in
@@ -70,11 +57,9 @@ copy-in-requires c κs =
     let start = at-all-in .before .before .before .before in
     ask-copy _ _ _ _ (start .args .kc) (start .args .most) _ (start .pre .0) (start .pre .1) _ (at-all-in .all-in .ensures .0) (at-all-in .all-in .kept .0) _ (at-all-in .all-in .ensures .1) _ (at-ke .ke .given .1) _ (at-cases-in .cases-in .ensures .0) (at-cases-in .cases-in .kept .0) _ (at-cases-in .cases-in .ensures .1)
 
--- src/lib.rt:54:9
 same-length-2 : tie.Need-same-length-2
 same-length-2 c = search needs
 
--- src/lib.rt:54:9
 returns-2 : tie.Need-returns-2
 returns-2 c =
     let at-copy-in = c .before .before in
@@ -86,11 +71,9 @@ returns-2 c =
     step-more _ _ _ _ _ _ _ (start .pre .0) (start .pre .1) _ (at-all-in .all-in .ensures .0) (at-all-in .all-in .kept .0) _ (at-all-in .all-in .ensures .1) _ (at-ke .ke .given .1) _ (at-cases-in .cases-in .ensures .0) (at-cases-in .cases-in .kept .0) _ (at-cases-in .cases-in .ensures .1)
     _ (at-copy-in .copy-in .ensures .0) (at-copy-in .copy-in .ensures .1) (at-if1 .if1 .taken)
 
--- src/lib.rt:41:1
 same-length-3 : tie.Need-same-length-3
 same-length-3 c = search needs
 
--- src/lib.rt:41:1
 returns-3 : tie.Need-returns-3
 returns-3 c =
     let at-cases-in = c .before .before .before in

@@ -1,7 +1,6 @@
-use borrow.Author.Needs.{needs}
 -- `divide`: the three steps, one after another.
+use borrow.Author.Needs.{needs}
 use Rattle.dividing.proofs.DivideLaws.{ask-support, over-core, ask-rest, over-rest, ask-mark, over-mark, divided-into}
--- (head ends)
 use Rattle.dividing.proofs.divide.Statement.{statement}
 use Rattle.dividing.proofs.divide.Tie as tie
 use Rattle.dividing.proofs.divide.Reads as reads

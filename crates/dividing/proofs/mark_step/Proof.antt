@@ -1,63 +1,50 @@
-use borrow.Author.Needs.{needs}
 -- `mark_step`: a restriction is too large, their node total is smaller, or it is not.
+use borrow.Author.Needs.{needs}
 use native.Mathlib.Omega.{arith}
 use mathlib.Core.Path.{refl}
 use Rattle.dividing.proofs.MarkLaws.{ask-high, over-high, ask-low, over-low, sum-fits, step-new, step-old}
--- (head ends)
-use borrow.Author.Needs.{needs}
 use Rattle.dividing.proofs.mark_step.Statement.{statement}
 use Rattle.dividing.proofs.mark_step.Tie as tie
 use Rattle.dividing.proofs.mark_step.Reads as reads
 use Rattle.dividing.proofs.mark_step.Lts as lts
 use Rattle.frame_carry.proofs.fix_in.Reads as fix-in-reads
 
--- src/lib.rt:143:17
 mul-place : tie.Need-mul-place
 mul-place c = search needs
 
--- src/lib.rt:144:20
 mul-left : tie.Need-mul-left
 mul-left c = search needs
 
--- src/lib.rt:144:16
 add-left : tie.Need-add-left
 add-left c = search needs
 
--- src/lib.rt:145:21
 mul-tried : tie.Need-mul-tried
 mul-tried c = search needs
 
--- src/lib.rt:145:17
 add-tried : tie.Need-add-tried
 add-tried c = search needs
 
--- src/lib.rt:146:27
 fix-in-requires : tie.Need-fix-in-requires
 fix-in-requires c κs =
     let start = c .before .before .before in
     let a = ask-high _ _ _ (start .args .m .0) (start .args .best .0) (start .args .least) _ (start .pre .0) in
     a
 
--- src/lib.rt:146:21
 enum-known-k1 : tie.Need-enum-known-k1
 enum-known-k1 c = search needs
 
--- src/lib.rt:147:9
 enum-told : tie.Need-enum-told
 enum-told c = search needs
 
--- src/lib.rt:147:9
 same-length : tie.Need-same-length
 same-length c = search needs
 
--- src/lib.rt:147:9
 returns : tie.Need-returns
 returns c =
     let at-fix-in = c .before .before .before .before in
     let start = at-fix-in .before .before .before .before in
     over-high _ _ _ (start .args .m .0) (start .args .best .0) (start .args .least) _ (start .pre .0) _ (at-fix-in .fix-in .ensures .0) (at-fix-in .fix-in .kept .0) _ (at-fix-in .fix-in .ensures .1) (c .enum-told .given .1)
 
--- src/lib.rt:149:27
 fix-in-requires-2 : tie.Need-fix-in-requires-2
 fix-in-requires-2 c κs =
     let at-fix-in = c .before .before .before .before .before .before in
@@ -65,19 +52,15 @@ fix-in-requires-2 c κs =
     let a = ask-low _ _ _ (start .args .m .0) (start .args .best .0) (start .args .least) _ (start .pre .0) _ (at-fix-in .fix-in .ensures .0) (at-fix-in .fix-in .kept .0) (at-fix-in .fix-in .result) (at-fix-in .fix-in .ensures .1) in
     a
 
--- src/lib.rt:149:21
 enum-known-k0 : tie.Need-enum-known-k0
 enum-known-k0 c = search needs
 
--- src/lib.rt:150:9
 enum-told-2 : tie.Need-enum-told-2
 enum-told-2 c = search needs
 
--- src/lib.rt:150:9
 same-length-2 : tie.Need-same-length-2
 same-length-2 c = search needs
 
--- src/lib.rt:150:9
 returns-2 : tie.Need-returns-2
 returns-2 c =
     let at-fix-in2 = c .before .before .before .before in
@@ -86,7 +69,6 @@ returns-2 c =
     let start = at-fix-in .before .before .before .before in
     over-low _ _ _ (start .args .m .0) (start .args .best .0) (start .args .least) _ (start .pre .0) _ (at-fix-in .fix-in .ensures .0) (at-fix-in .fix-in .kept .0) _ (at-fix-in .fix-in .ensures .1) _ (at-k1 .k1 .given .1) _ (at-fix-in2 .fix-in2 .ensures .0) _ (at-fix-in2 .fix-in2 .ensures .1) (c .enum-told2 .given .1)
 
--- src/lib.rt:152:8
 add-if1 : tie.Need-add-if1
 add-if1 c =
     let at-k0 = c .before in
@@ -96,7 +78,6 @@ add-if1 c =
     let start = at-fix-in .before .before .before .before in
     record { fits = omega (arith, sum-fits _ _ _ (start .args .m .0) (start .args .best .0) (start .args .least) _ (start .pre .0) _ (at-fix-in .fix-in .ensures .0) (at-fix-in .fix-in .kept .0) _ (at-fix-in .fix-in .ensures .1) _ (at-k1 .k1 .given .1) _ (at-fix-in2 .fix-in2 .ensures .0) _ (at-fix-in2 .fix-in2 .ensures .1) _ (at-k0 .k0 .given .1)) }
 
--- src/lib.rt:153:33
 add-t22 : tie.Need-add-t22
 add-t22 c =
     let at-k0 = c .before .before in
@@ -106,11 +87,9 @@ add-t22 c =
     let start = at-fix-in .before .before .before .before in
     record { fits = omega (arith, sum-fits _ _ _ (start .args .m .0) (start .args .best .0) (start .args .least) _ (start .pre .0) _ (at-fix-in .fix-in .ensures .0) (at-fix-in .fix-in .kept .0) _ (at-fix-in .fix-in .ensures .1) _ (at-k1 .k1 .given .1) _ (at-fix-in2 .fix-in2 .ensures .0) _ (at-fix-in2 .fix-in2 .ensures .1) _ (at-k0 .k0 .given .1)) }
 
--- src/lib.rt:153:9
 same-length-3 : tie.Need-same-length-3
 same-length-3 c = search needs
 
--- src/lib.rt:153:9
 returns-3 : tie.Need-returns-3
 returns-3 c =
     let at-k0 = c .before .before in
@@ -120,11 +99,9 @@ returns-3 c =
     let start = at-fix-in .before .before .before .before in
     step-new _ _ _ (start .args .m .0) (start .args .best .0) (start .args .least) _ (start .pre .0) _ (at-fix-in .fix-in .ensures .0) (at-fix-in .fix-in .kept .0) _ (at-fix-in .fix-in .ensures .1) _ (at-k1 .k1 .given .1) _ (at-fix-in2 .fix-in2 .ensures .0) _ (at-fix-in2 .fix-in2 .ensures .1) _ (at-k0 .k0 .given .1) (start .args .m) refl (c .if1 .taken)
 
--- src/lib.rt:130:1
 same-length-4 : tie.Need-same-length-4
 same-length-4 c = search needs
 
--- src/lib.rt:130:1
 returns-4 : tie.Need-returns-4
 returns-4 c =
     let at-k0 = c .before .before in

@@ -1,12 +1,11 @@
-use borrow.Author.Needs.{needs}
 -- `rest_of`: what is left so far, and the marks of the core that are left.
+use borrow.Author.Needs.{needs}
 use native.Mathlib.Omega.{arith}
 use mathlib.Core.Path.{_∙_}
 use lib.ListN.{length}
 use Rattle.theory.specs.Clause.{marksOf}
 use Rattle.dividing.proofs.FitLaws.{next-mark, next-less}
 use Rattle.dividing.proofs.RestLaws.{RestInv, ask-copy-in, none-left, ask-and-not, left-over, ask-support, rest-start, ask-step, rest-end, rest-again, rest-over}
--- (head ends)
 use Rattle.dividing.proofs.rest_of.Statement.{statement}
 use Rattle.dividing.proofs.rest_of.Tie as tie
 use Rattle.dividing.proofs.rest_of.Reads as reads
@@ -23,33 +22,26 @@ Inv-loop w₀ q f kf kc most place core left k0 kg₀ rest₀ w kg rest = RestIn
 abbrev μ-loop : tie.MeasureT-loop
 μ-loop w₀ q f kf kc most place core left k0 kg₀ rest₀ w kg rest = length (marksOf (q .n) rest)
 
--- src/lib.rt:106:17
 mul-place : tie.Need-mul-place Inv-loop μ-loop
 mul-place c = search needs
 
--- src/lib.rt:107:16
 add-core : tie.Need-add-core Inv-loop μ-loop
 add-core c = search needs
 
--- src/lib.rt:108:20
 mul-left : tie.Need-mul-left Inv-loop μ-loop
 mul-left c = search needs
 
--- src/lib.rt:108:16
 add-left : tie.Need-add-left Inv-loop μ-loop
 add-left c = search needs
 
--- src/lib.rt:110:9
 copy-in-requires : tie.Need-copy-in-requires Inv-loop μ-loop
 copy-in-requires c κs =
     let start = c .before .before .before .before in
     ask-copy-in _ _ _ _ _ _ (start .pre)
 
--- src/lib.rt:111:9
 same-length : tie.Need-same-length Inv-loop μ-loop
 same-length c = search needs
 
--- src/lib.rt:111:9
 returns : tie.Need-returns Inv-loop μ-loop
 returns c =
     let at-copy-in = c .before .before in
@@ -57,26 +49,21 @@ returns c =
     let start = at-if1 .before .before .before in
     none-left _ _ _ _ _ _ (start .pre) _ (at-copy-in .copy-in .ensures .0) (at-copy-in .copy-in .ensures .1) (at-if1 .if1 .taken)
 
--- src/lib.rt:113:27
 and-not-in-requires : tie.Need-and-not-in-requires Inv-loop μ-loop
 and-not-in-requires c κs =
     let start = c .before .before .before .before in
     let a = ask-and-not _ _ _ _ _ _ (start .pre) in
     a
 
--- src/lib.rt:113:21
 enum-known-k0 : tie.Need-enum-known-k0 Inv-loop μ-loop
 enum-known-k0 c = search needs
 
--- src/lib.rt:114:9
 enum-told : tie.Need-enum-told Inv-loop μ-loop
 enum-told c = search needs
 
--- src/lib.rt:114:9
 same-length-2 : tie.Need-same-length-2 Inv-loop μ-loop
 same-length-2 c = search needs
 
--- src/lib.rt:114:9
 returns-2 : tie.Need-returns-2 Inv-loop μ-loop
 returns-2 c =
     let at-and-not-in = c .before .before .before .before in
@@ -84,7 +71,6 @@ returns-2 c =
     let start = at-if1 .before .before .before in
     left-over _ _ _ _ _ _ (start .pre) (at-if1 .if1 .left) _ (at-and-not-in .and-not-in .ensures .0) (at-and-not-in .and-not-in .kept .0) _ (at-and-not-in .and-not-in .ensures .1) (c .enum-told .given .1)
 
--- src/lib.rt:117:9
 support-in-requires : tie.Need-support-in-requires Inv-loop μ-loop
 support-in-requires c κs =
     let at-and-not-in = c .before .before .before .before .before .before in
@@ -92,7 +78,6 @@ support-in-requires c κs =
     let start = at-if1 .before .before .before in
     ask-support _ _ _ _ _ _ (start .pre) (at-if1 .if1 .left) _ (at-and-not-in .and-not-in .ensures .0) (at-and-not-in .and-not-in .kept .0) (at-and-not-in .and-not-in .result) (at-and-not-in .and-not-in .ensures .1)
 
--- src/lib.rt:118:5
 loop-holds : tie.Need-loop-holds Inv-loop μ-loop
 loop-holds c =
     let at-k0 = c .before .before .before in
@@ -101,14 +86,12 @@ loop-holds c =
     let start = at-if1 .before .before .before in
     rest-start _ _ _ _ _ _ (start .pre) (at-if1 .if1 .left) _ (at-and-not-in .and-not-in .ensures .0) (at-and-not-in .and-not-in .kept .0) _ (at-and-not-in .and-not-in .ensures .1) _ (at-k0 .k0 .given .1) _ (c .support-in .ensures)
 
--- src/lib.rt:119:29
 cast-t27 : tie.Need-cast-t27 Inv-loop μ-loop
 cast-t27 c =
     let at-loop = c .before in
     let start = at-loop .before .before .before .before .before .before .before .before .before .before .before .before .before in
     record { fits = omega (arith, next-mark _ _ (start .pre .frame .lies .marks) (at-loop .loop .inv .small) (c .loop-test .taken) .less, start .pre .frame .lies .marks) }
 
--- src/lib.rt:120:30
 rest-step-requires : tie.Need-rest-step-requires Inv-loop μ-loop
 rest-step-requires c κs =
     let at-loop-test = c .before in
@@ -121,15 +104,12 @@ rest-step-requires c κs =
     let a = ask-step _ _ _ _ _ _ (start .pre) (at-if1 .if1 .left) _ (at-and-not-in .and-not-in .ensures .0) (at-and-not-in .and-not-in .kept .0) _ (at-and-not-in .and-not-in .ensures .1) _ (at-k0 .k0 .given .1) _ (at-support-in .support-in .ensures) _ _ _ (at-loop .loop .inv) in
     (a .0, a .1, next-mark _ _ (start .pre .frame .lies .marks) (at-loop .loop .inv .small) (at-loop-test .loop-test .taken) .less)
 
--- src/lib.rt:120:25
 enum-known-k : tie.Need-enum-known-k Inv-loop μ-loop
 enum-known-k c = search needs
 
--- src/lib.rt:121:13
 enum-told-2 : tie.Need-enum-told-2 Inv-loop μ-loop
 enum-told-2 c = search needs
 
--- src/lib.rt:121:13
 same-length-3 : tie.Need-same-length-3 Inv-loop μ-loop
 same-length-3 c =
     let at-rest-step = c .before .before .before .before in
@@ -137,7 +117,6 @@ same-length-3 c =
     let at-and-not-in = at-loop .before .before .before .before .before .before .before .before in
     at-rest-step .rest-step .kept .0 ∙ at-loop .loop .inv .long ∙ at-and-not-in .and-not-in .kept .0
 
--- src/lib.rt:121:13
 returns-3 : tie.Need-returns-3 Inv-loop μ-loop
 returns-3 c =
     let at-rest-step = c .before .before .before .before in
@@ -151,7 +130,6 @@ returns-3 c =
     rest-over _ _ _ _ _ _ (start .pre) (at-if1 .if1 .left) _ (at-and-not-in .and-not-in .ensures .0) (at-and-not-in .and-not-in .kept .0) _ (at-and-not-in .and-not-in .ensures .1) _ (at-k0 .k0 .given .1) _ (at-support-in .support-in .ensures) _ _ _ (at-loop .loop .inv)
     _ (next-mark _ _ (start .pre .frame .lies .marks) (at-loop .loop .inv .small) (at-loop-test .loop-test .taken)) _ (at-rest-step .rest-step .ensures .0) (at-rest-step .rest-step .kept .0) _ (at-rest-step .rest-step .ensures .1) (c .enum-told2 .given .1)
 
--- src/lib.rt:124:9
 set-bit-requires : tie.Need-set-bit-requires Inv-loop μ-loop
 set-bit-requires c κs =
     let at-loop-test = c .before .before .before .before .before .before .before in
@@ -159,7 +137,6 @@ set-bit-requires c κs =
     let start = at-loop .before .before .before .before .before .before .before .before .before .before .before .before .before in
     omega (arith, next-mark _ _ (start .pre .frame .lies .marks) (at-loop .loop .inv .small) (at-loop-test .loop-test .taken) .less, start .pre .frame .lies .marks)
 
--- src/lib.rt:118:5
 loop-less : tie.Need-loop-less Inv-loop μ-loop
 loop-less c =
     let at-loop-test = c .before .before .before .before .before .before .before .before in
@@ -167,7 +144,6 @@ loop-less c =
     let start = at-loop .before .before .before .before .before .before .before .before .before .before .before .before .before in
     next-less _ _ _ _ (next-mark _ _ (start .pre .frame .lies .marks) (at-loop .loop .inv .small) (at-loop-test .loop-test .taken)) (c .set-bit .ensures)
 
--- src/lib.rt:118:5
 loop-again : tie.Need-loop-again Inv-loop μ-loop
 loop-again c =
     let at-k = c .before .before in
@@ -182,14 +158,12 @@ loop-again c =
     rest-again _ _ _ _ _ _ (start .pre) (at-if1 .if1 .left) _ (at-and-not-in .and-not-in .ensures .0) (at-and-not-in .and-not-in .kept .0) _ (at-and-not-in .and-not-in .ensures .1) _ (at-k0 .k0 .given .1) _ (at-support-in .support-in .ensures) _ _ _ (at-loop .loop .inv)
     _ (next-mark _ _ (start .pre .frame .lies .marks) (at-loop .loop .inv .small) (at-loop-test .loop-test .taken)) _ (at-rest-step .rest-step .ensures .0) (at-rest-step .rest-step .kept .0) _ (at-rest-step .rest-step .ensures .1) _ (at-k .k .given .1) _ (c .set-bit .ensures)
 
--- src/lib.rt:101:1
 same-length-4 : tie.Need-same-length-4 Inv-loop μ-loop
 same-length-4 c =
     let at-loop = c .before in
     let at-and-not-in = at-loop .before .before .before .before .before .before .before .before in
     at-loop .loop .inv .long ∙ at-and-not-in .and-not-in .kept .0
 
--- src/lib.rt:101:1
 returns-4 : tie.Need-returns-4 Inv-loop μ-loop
 returns-4 c =
     let at-loop = c .before in

@@ -1,8 +1,6 @@
-use borrow.Author.Needs.{needs}
 -- `rest_step`: what is left without the mark is too large, is taken, or is not.
-use Rattle.dividing.proofs.RestLaws.{ask-some, step-over, ask-implies, ask-copy, step-take, step-leave}
--- (head ends)
 use borrow.Author.Needs.{needs}
+use Rattle.dividing.proofs.RestLaws.{ask-some, step-over, ask-implies, ask-copy, step-take, step-leave}
 use Rattle.dividing.proofs.rest_step.Statement.{statement}
 use Rattle.dividing.proofs.rest_step.Tie as tie
 use Rattle.dividing.proofs.rest_step.Reads as reads
@@ -11,53 +9,42 @@ use Rattle.frame.proofs.copy_in.Reads as copy-in-reads
 use Rattle.frame_implies.proofs.implies_in.Reads as implies-in-reads
 use Rattle.frame_join.proofs.some_in.Reads as some-in-reads
 
--- src/lib.rt:87:17
 mul-place : tie.Need-mul-place
 mul-place c = search needs
 
--- src/lib.rt:88:20
 mul-left : tie.Need-mul-left
 mul-left c = search needs
 
--- src/lib.rt:88:16
 add-left : tie.Need-add-left
 add-left c = search needs
 
--- src/lib.rt:89:21
 mul-tried : tie.Need-mul-tried
 mul-tried c = search needs
 
--- src/lib.rt:89:17
 add-tried : tie.Need-add-tried
 add-tried c = search needs
 
--- src/lib.rt:90:27
 some-in-requires : tie.Need-some-in-requires
 some-in-requires c κs =
     let start = c .before .before .before in
     let a = ask-some _ _ _ (start .args .m .0) _ _ (start .pre .0) (start .pre .1) in
     a
 
--- src/lib.rt:90:21
 enum-known-ke : tie.Need-enum-known-ke
 enum-known-ke c = search needs
 
--- src/lib.rt:91:9
 enum-told : tie.Need-enum-told
 enum-told c = search needs
 
--- src/lib.rt:91:9
 same-length : tie.Need-same-length
 same-length c = search needs
 
--- src/lib.rt:91:9
 returns : tie.Need-returns
 returns c =
     let at-some-in = c .before .before .before .before in
     let start = at-some-in .before .before .before .before in
     step-over _ _ _ _ _ _ (start .pre .0) (start .pre .1) _ (at-some-in .some-in .ensures .0) (at-some-in .some-in .kept .0) _ (at-some-in .some-in .ensures .1) (c .enum-told .given .1)
 
--- src/lib.rt:93:8
 implies-in-requires : tie.Need-implies-in-requires
 implies-in-requires c κs =
     let at-ke = c .before .before in
@@ -66,7 +53,6 @@ implies-in-requires c κs =
     let a = ask-implies _ _ _ _ _ _ (start .pre .0) (start .pre .1) _ (at-some-in .some-in .ensures .0) (at-some-in .some-in .kept .0) _ (at-some-in .some-in .ensures .1) _ (at-ke .ke .given .1) in
     a
 
--- src/lib.rt:94:9
 copy-in-requires : tie.Need-copy-in-requires
 copy-in-requires c κs =
     let at-implies-in = c .before .before .before .before in
@@ -75,11 +61,9 @@ copy-in-requires c κs =
     let start = at-some-in .before .before .before .before in
     ask-copy _ _ _ _ _ _ (start .pre .0) (start .pre .1) _ (at-some-in .some-in .ensures .0) (at-some-in .some-in .kept .0) _ (at-some-in .some-in .ensures .1) _ (at-ke .ke .given .1) _ (at-implies-in .implies-in .ensures .0) (at-implies-in .implies-in .kept .0) _ (at-implies-in .implies-in .ensures .1)
 
--- src/lib.rt:95:9
 same-length-2 : tie.Need-same-length-2
 same-length-2 c = search needs
 
--- src/lib.rt:95:9
 returns-2 : tie.Need-returns-2
 returns-2 c =
     let at-copy-in = c .before .before in
@@ -91,11 +75,9 @@ returns-2 c =
     step-take _ _ _ _ _ _ (start .pre .0) (start .pre .1) _ (at-some-in .some-in .ensures .0) (at-some-in .some-in .kept .0) _ (at-some-in .some-in .ensures .1) _ (at-ke .ke .given .1) _ (at-implies-in .implies-in .ensures .0) (at-implies-in .implies-in .kept .0) _ (at-implies-in .implies-in .ensures .1)
     _ (at-copy-in .copy-in .ensures .0) (at-copy-in .copy-in .ensures .1) (at-if1 .if1 .taken)
 
--- src/lib.rt:82:1
 same-length-3 : tie.Need-same-length-3
 same-length-3 c = search needs
 
--- src/lib.rt:82:1
 returns-3 : tie.Need-returns-3
 returns-3 c =
     let at-implies-in = c .before .before .before in

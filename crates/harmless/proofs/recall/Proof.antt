@@ -1,10 +1,9 @@
-use borrow.Author.Needs.{needs}
 -- `recall`: another count, or the words compared.
+use borrow.Author.Needs.{needs}
 use mathlib.Core.Path.{refl}
 use native.Mathlib.Omega.{arith}
 use Rattle.rule.proofs.Truths.{clash}
 use Rattle.harmless.proofs.SlotLaws.{inside, all-in, ask-same, hit}
--- (head ends)
 use Rattle.harmless.proofs.recall.Statement.{statement}
 use Rattle.harmless.proofs.recall.Tie as tie
 use Rattle.harmless.proofs.recall.Reads as reads

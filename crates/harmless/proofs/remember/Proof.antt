@@ -1,10 +1,9 @@
-use borrow.Author.Needs.{needs}
 -- `remember`: the count, then the words.
+use borrow.Author.Needs.{needs}
 use native.Mathlib.Omega.{arith}
 use mathlib.Core.Path.{_∙_}
 use lib.ListN.{length-set}
 use Rattle.harmless.proofs.SlotLaws.{inside, all-in, ask-store, kept-behind, kept-known}
--- (head ends)
 use Rattle.harmless.proofs.remember.Statement.{statement}
 use Rattle.harmless.proofs.remember.Tie as tie
 use Rattle.harmless.proofs.remember.Reads as reads

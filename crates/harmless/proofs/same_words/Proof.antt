@@ -1,12 +1,11 @@
-use borrow.Author.Needs.{needs}
 -- `same_words`: the words so far are the same.
+use borrow.Author.Needs.{needs}
 use mathlib.Core.Path.{_≡_, refl}
 use Prim.Native.Nat.{ℕ, _+_, _-_, _<_, _≤_}
 use native.Mathlib.Omega.{arith}
 use lib.ListN.{getD}
 use Rattle.rule.proofs.Truths.{clash}
 use Rattle.harmless.proofs.SlotLaws.{same-next}
--- (head ends)
 use Rattle.harmless.proofs.same_words.Statement.{statement}
 use Rattle.harmless.proofs.same_words.Tie as tie
 use Rattle.harmless.proofs.same_words.Reads as reads

@@ -1,12 +1,11 @@
-use borrow.Author.Needs.{needs}
 -- `slot_of`: a sum over the words, less than the number of slots.
+use borrow.Author.Needs.{needs}
 use mathlib.Core.Path.{refl}
 use Prim.Native.Nat.{ℕ, _+_, _*_, _-_, _%_, _<_, _≤_}
 use native.Mathlib.Omega.{arith}
 use native.Mathlib.Nat.{mod-lt}
 use lib.ListN.{getD}
 use Rattle.harmless.proofs.SlotLaws.{slot-small}
--- (head ends)
 use Rattle.harmless.proofs.slot_of.Statement.{statement}
 use Rattle.harmless.proofs.slot_of.Tie as tie
 use Rattle.harmless.proofs.slot_of.Reads as reads

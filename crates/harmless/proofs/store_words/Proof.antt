@@ -1,11 +1,10 @@
-use borrow.Author.Needs.{needs}
 -- `store_words`: the words so far are stored.
+use borrow.Author.Needs.{needs}
 use mathlib.Core.Path.{subst}
 use Prim.Native.Nat.{ℕ, _+_, _-_, _<_, _≤_}
 use mathlib.Core.Path.{_≡_}
 use native.Mathlib.Omega.{arith}
 use Rattle.frame.proofs.LeafLaws.{Copied, copy-start, copy-step}
--- (head ends)
 use Rattle.harmless.proofs.store_words.Statement.{statement}
 use Rattle.harmless.proofs.store_words.Tie as tie
 use Rattle.harmless.proofs.store_words.Reads as reads

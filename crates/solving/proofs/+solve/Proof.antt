@@ -1,11 +1,10 @@
-use borrow.Author.Needs.{needs}
 -- `solve`: the constants, what is remembered, the function divided, and its three parts one after another.
+use borrow.Author.Needs.{needs}
 use Prim.Native.Nat.{ℕ, _+_, _-_, _<_}
 use native.Mathlib.Omega.{arith}
 use mathlib.Core.Path.{_∙_}
 use Rattle.valuation.specs.Valuation.{clauseOf}
 use Rattle.solving.proofs.SolveLaws.{Turn, push-fits, when-false, when-true, numbers, ask-recall, recalled, ask-divide, over-divide, turn-start, ask-load, mark-fits, ask-remember, ended, ask-solve, part-nodes, turn-again}
--- (head ends)
 use borrow.Fn.Kinds.{In}
 use borrow.Fn.PlainCycle.{Measures, is, falls, and}
 use Rattle.solving.proofs.solve.Reads as solve

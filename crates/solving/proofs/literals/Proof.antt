@@ -1,9 +1,8 @@
-use borrow.Author.Needs.{needs}
 -- `literals`: the core's, or those of a side.
+use borrow.Author.Needs.{needs}
 use mathlib.Core.Path.{_∙_}
 use Rattle.valuation.specs.Valuation.{clauseOf}
 use Rattle.solving.proofs.PartLaws.{core-literals, side-literals}
--- (head ends)
 use Rattle.solving.proofs.literals.Statement.{statement}
 use Rattle.solving.proofs.literals.Tie as tie
 use Rattle.solving.proofs.literals.Reads as reads

@@ -1,7 +1,6 @@
-use borrow.Author.Needs.{needs}
 -- `load_part`: the core is copied, a side is restricted; it cannot be over room.
+use borrow.Author.Needs.{needs}
 use Rattle.solving.proofs.PartLaws.{ask-copy, core-loaded, ask-fix, never, side-loaded}
--- (head ends)
 use Rattle.solving.proofs.load_part.Statement.{statement}
 use Rattle.solving.proofs.load_part.Tie as tie
 use Rattle.solving.proofs.load_part.Reads as reads

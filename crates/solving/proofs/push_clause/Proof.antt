@@ -1,11 +1,10 @@
-use borrow.Author.Needs.{needs}
 -- `push_clause`: full already, just full, or place for the clause.
+use borrow.Author.Needs.{needs}
 use native.Mathlib.Omega.{arith}
 use Prim.Native.Nat.{_/_, _<_}
 use lib.ListN.{length, length-set}
 use Rattle.valuation.specs.Valuation.{clauseOf}
 use Rattle.solving.proofs.PushLaws.{push-full, push-last, push-more}
--- (head ends)
 use Rattle.solving.proofs.push_clause.Statement.{statement}
 use Rattle.solving.proofs.push_clause.Tie as tie
 use Rattle.solving.proofs.push_clause.Reads as reads

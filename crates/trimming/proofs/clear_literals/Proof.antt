@@ -1,11 +1,10 @@
-use borrow.Author.Needs.{needs}
 -- `clear_literals`: the clauses so far are cleared.
+use borrow.Author.Needs.{needs}
 use Prim.Native.Nat.{ℕ, _-_}
 use native.Mathlib.Omega.{arith}
 use lib.ListN.{length-set}
 use Rattle.valuation.specs.Valuation.{clauseOf}
 use Rattle.trimming.proofs.ClearLaws.{ClearInv, clear-start, clear-next, clear-done}
--- (head ends)
 use Rattle.trimming.proofs.clear_literals.Statement.{statement}
 use Rattle.trimming.proofs.clear_literals.Tie as tie
 use Rattle.trimming.proofs.clear_literals.Reads as reads

@@ -1,8 +1,7 @@
-use borrow.Author.Needs.{needs}
 -- `short_list`: solved; a table was over room, or there are too many clauses, or they are trimmed.
+use borrow.Author.Needs.{needs}
 use native.Mathlib.Omega.{arith}
 use Rattle.trimming.proofs.ListLaws.{first-is, first-fits, ask-solve, list-nodes, list-over, ask-trim, list-done}
--- (head ends)
 use Rattle.trimming.proofs.short_list.Statement.{statement}
 use Rattle.trimming.proofs.short_list.Tie as tie
 use Rattle.trimming.proofs.short_list.Reads as reads

@@ -1,9 +1,8 @@
-use borrow.Author.Needs.{needs}
 -- `trim_mark`: positive, negative, or neither.
+use borrow.Author.Needs.{needs}
 use native.Mathlib.Omega.{arith}
 use mathlib.Core.Path.{refl}
 use Rattle.trimming.proofs.TrimLaws.{ready-still, positive, negative, neither}
--- (head ends)
 use Rattle.trimming.proofs.trim_mark.Statement.{statement}
 use Rattle.trimming.proofs.trim_mark.Tie as tie
 use Rattle.trimming.proofs.trim_mark.Reads as reads

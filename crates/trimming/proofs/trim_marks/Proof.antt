@@ -1,11 +1,10 @@
-use borrow.Author.Needs.{needs}
 -- `trim_marks`: the clauses so far, and the marks that are left.
+use borrow.Author.Needs.{needs}
 use native.Mathlib.Omega.{arith}
 use lib.ListN.{length}
 use Rattle.theory.specs.Clause.{marksOf}
 use Rattle.dividing.proofs.FitLaws.{next-mark, next-less}
 use Rattle.trimming.proofs.TrimLaws.{TrimInv, ready-still, trim-start, trim-next, trim-end}
--- (head ends)
 use Rattle.trimming.proofs.trim_marks.Statement.{statement}
 use Rattle.trimming.proofs.trim_marks.Tie as tie
 use Rattle.trimming.proofs.trim_marks.Reads as reads
