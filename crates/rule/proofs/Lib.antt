@@ -1,0 +1,9 @@
+pub mod Truths
+pub mod Setting
+pub mod Needs
+pub mod Parts
+pub mod Means
+pub mod Fuel
+pub mod Tests
+pub mod Sizes
+pub mod Bench

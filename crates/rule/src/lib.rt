@@ -1,0 +1,1 @@
+// The short list's rule: definitions and laws, no code.

@@ -1,0 +1,4 @@
+pub mod PushLaws
+pub mod PartLaws
+pub mod RunLaws
+pub mod SolveLaws

@@ -1,0 +1,3 @@
+pub mod ClearLaws
+pub mod TrimLaws
+pub mod ListLaws
