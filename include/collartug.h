@@ -93,6 +93,11 @@ uint64_t collartug_check_cover(uint16_t n, size_t count, const uint32_t *nodes, 
 uint64_t collartug_to_dnf(uint16_t n, size_t count, const uint32_t *nodes, size_t nodes_len, uint64_t *out, size_t out_len, uint32_t *work,
     size_t work_len, uint64_t *reply, size_t reply_len);
 
+/* The short list: few, short clauses to post; they may overlap, so it is not for adding. Work: 24 * W * (n + 2) + 192 words, W the larger of room and count. Both NODES and
+ * CLAUSES name 0. */
+uint64_t collartug_to_optimized_dnf(uint16_t n, size_t count, const uint32_t *nodes, size_t nodes_len, size_t room, uint64_t *out, size_t out_len,
+    uint32_t *work, size_t work_len, uint64_t *reply, size_t reply_len);
+
 /* One clause for each path to no, low first, literals inverted. */
 uint64_t collartug_to_cnf(uint16_t n, size_t count, const uint32_t *nodes, size_t nodes_len, uint64_t *out, size_t out_len, uint32_t *work,
     size_t work_len, uint64_t *reply, size_t reply_len);

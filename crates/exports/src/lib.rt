@@ -42,6 +42,7 @@ ghost use Rattle.lists.specs.Lists.{listsDnf, listsCnf};
 ghost use Rattle.sheet.specs.Sheet.{sheetReply, readsSheet};
 ghost use Rattle.walk.specs.Reduced.{admitsWalk};
 ghost use Rattle.walk.specs.Walk.{pathStepReply, tells, walkClauses};
+ghost use Rattle.short.specs.Short.{listsShort};
 ghost use Rattle.unary.specs.Unary.{marksReply, negates, restricts, supports, countsCases};
 ghost use Rattle.exports.specs.Exports.{Exported, ExportedWork, ExportedPair, partValues, posts, replyLength, replyWords, accepted, bufferWith, replyAfter, writtenWords};
 
@@ -791,4 +792,23 @@ pub extern "C" fn collartug_choose_posting<'a>(
     ensures { λ r. ⌜ (r ≡ accepted (now (reply .entry))) × (now (reply .exit) ≡ replyAfter (posts (now (dnf .entry)) (now (cnf .entry))) (now (reply .entry))) ⌝ }
 {
     write_reply(reply, part_written(posting::choose_posting(dnf, cnf)))
+}
+
+#[no_mangle]
+pub extern "C" fn collartug_to_optimized_dnf(
+    n: u16,
+    count: usize,
+    bdd: &[u32],
+    room: usize,
+    out: &mut [u64],
+    work: &mut [u32],
+    reply: &mut [u64],
+) -> u64
+    ensures { λ r. ⌜ Exported (listsShort n count (now (bdd .entry)) room (now (out .entry)) (now (work .entry))) r (now (out .entry)) (now (out .exit)) (now (work .entry)) (now (work .exit)) (now (reply .entry)) (now (reply .exit)) ⌝ }
+{
+    if reply.len() < REPLY_WORDS {
+        return 0;
+    }
+    let listed = short::to_optimized_dnf(n, count, bdd, room, out, work);
+    write_reply(reply, listed_written(listed))
 }
