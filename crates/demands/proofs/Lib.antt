@@ -8,3 +8,5 @@ pub mod Lists
 pub mod Cover
 pub mod Walk
 pub mod Sheets
+pub mod Short
+pub mod Whole
