@@ -4,12 +4,12 @@ use mathlib.Core.Bool.{true, false, _||_}
 use mathlib.Core.List.{List, [], _∷_, map}
 use Prim.Native.Nat.{ℕ, _*_}
 use lib.ListN.{length, replicate}
-use Rattle.theory.specs.Table.{Table, node, constants, nodeOk, linkOk, find, grow, mk, walk, canon}
-use Rattle.theory.specs.Tree.{tabulate}
+use Rattle.theory.specs.Table.{Table, node, constants, step, treeOf, meaning, nodeOk, linkOk, find, grow, mk, walk, canon}
+use Rattle.theory.specs.Tree.{tabulate, pointwise, cofactor, caseCount, konst, sameTree, supportOf}
 use Rattle.theory.specs.Mask.{bit, setBit}
 use Rattle.theory.specs.Words.{nodes, wordsOf}
-use Rattle.theory.specs.Clause.{clause, emptyClause, setCell, malformed}
-use Rattle.refusal.specs.Number.{NODES, order}
+use Rattle.theory.specs.Clause.{clause, emptyClause, setCell, unsetCell, marksOf, malformed}
+use Rattle.refusal.specs.Number.{NODES, REDUCED, order}
 use Rattle.refusal.specs.Limits.{plainWork}
 use Rattle.refusal.specs.First.{firstFailing}
 use Rattle.refusal.specs.Verdict.{Verdict, refused, judged, tried, firstOf}
@@ -20,7 +20,10 @@ use Rattle.cube.specs.Cube.{everyMark, someMark, allHold, oneHolds, dnf, cnf, o
 use Rattle.paths.specs.Paths.{pathList, pathsFrom, pathCount}
 use Rattle.listing.specs.Listed.{clauseWords, listAnswer, lists}
 use Rattle.lists.specs.Lists.{listsDnf, listsCnf}
-use Rattle.builders.specs.Builders.{overList, shortList, badEntry, firstBadEntry, shortestOver, makesDnf, makesCnf}
+use Rattle.rule.specs.Rule.{moreCases, larger, mostCases, coreOf, hasCore, remainder, dropped, dropMarks, restOf, fewerNodes, smaller, fewestNodes, chosen, markOf, solved, inside, cleared, trimmedBy, trimmed, shortList, triedExists, restrictions, forAlls, restCalls, stepCalls, called, allFit, shortFits}
+use Rattle.short.specs.Short.{deepWork, shortDeep, listsShort}
+use Rattle.walk.specs.Reduced.{leads, reachable, repeated, nodeReduced, firstUnreduced, admitsWalk}
+use Rattle.builders.specs.Builders.{overList, shortList as endsEarly, badEntry, firstBadEntry, shortestOver, makesDnf, makesCnf}
 
 -- what an entry answers, and what the specification says
 record Row : Type 0 where
@@ -43,6 +46,10 @@ dnfListOf n table = listsDnf n (length table) (wordsOf table) (replicate 4 7) (r
 
 cnfListOf : ℕ → Table → Verdict
 cnfListOf n table = listsCnf n (length table) (wordsOf table) (replicate 4 7) (replicate (plainWork (length table)) 7)
+
+-- its short list, in a room of five nodes
+shortListOf : ℕ → Table → Verdict
+shortListOf n table = listsShort n (length table) (wordsOf table) 5 (replicate 4 7) (replicate (deepWork 5 n) 7)
 
 -- x0 and x1; one of them, not both; one of them or both
 both : Table
@@ -84,9 +91,12 @@ rows =
     ∷ row (dnfOf 1 (1 ∷ 1 ∷ 1 ∷ 1 ∷ []) 2 3) (tableAnswer (node 1 0 0 ∷ node 1 1 1 ∷ node 0 0 1 ∷ []))
     ∷ row (dnfOf 1 (1 ∷ 0 ∷ 1 ∷ 1 ∷ []) 2 2) (refused NODES 1)
     ∷ row (dnfOf 1 (1 ∷ 0 ∷ 1 ∷ 1 ∷ []) 2 3) (tableAnswer (constants 1))
+    ∷ row (shortListOf 2 either) (listAnswer (clause 2 2 ∷ clause 1 1 ∷ []))
+    ∷ row (shortListOf 2 xor) (listAnswer (clause 3 1 ∷ clause 3 2 ∷ []))
     ∷ row (dnfListOf 1 useless) (listAnswer (clause 1 0 ∷ clause 1 1 ∷ []))
+    ∷ row (admitsWalk 1 (length useless) (wordsOf useless)) (refused REDUCED 2)
     ∷ []
 
 starred : map (λ (r : Row). r .answers) rows ≡ map (λ (r : Row). r .says) rows
-unfolding rows row dnfOf cnfOf dnfListOf cnfListOf both xor either useless no yes lists listAnswer clauseWords pathList pathsFrom setCell emptyClause setBit nodes nodeOk linkOk overLimit tooShort firstBad pathCount makesDnf makesCnf makes tableAnswer judged tried firstOf order overList shortList badEntry firstBadEntry firstFailing shortestOver malformed overRoom shortOutput shortWork canon tabulate walk mk grow find bit wordsOf everyMark someMark allHold oneHolds dnf cnf opening
+unfolding rows row dnfOf cnfOf dnfListOf cnfListOf shortListOf shortDeep meaning treeOf step shortList solved trimmed trimmedBy cleared inside markOf chosen fewestNodes smaller fewerNodes restOf dropMarks dropped remainder hasCore coreOf mostCases larger moreCases supportOf marksOf sameTree pointwise cofactor caseCount konst unsetCell shortFits allFit called stepCalls restCalls forAlls restrictions triedExists admitsWalk firstUnreduced nodeReduced repeated reachable leads both xor either useless no yes lists listAnswer clauseWords pathList pathsFrom setCell emptyClause setBit nodes nodeOk linkOk overLimit tooShort firstBad pathCount makesDnf makesCnf makes tableAnswer judged tried firstOf order overList endsEarly badEntry firstBadEntry firstFailing shortestOver malformed overRoom shortOutput shortWork canon tabulate walk mk grow find bit wordsOf everyMark someMark allHold oneHolds dnf cnf opening
 starred = refl
