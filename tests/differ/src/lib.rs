@@ -20,6 +20,7 @@ pub mod proved_builders;
 pub mod proved_cover;
 pub mod proved_extractors;
 pub mod proved_operators;
+pub mod proved_posting;
 pub mod proved_sheet;
 pub mod proved_valuations;
 pub mod proved_walk;
