@@ -82,6 +82,9 @@ pub const EXTRACTORS: [Entry; 2] = [
     entry("to_cnf", &[LIMIT, SHORT, TABLE, CLAUSES], &[0, 1, 2, 1024]),
 ];
 
+/// The short list; the sample does not show it.
+pub const SHORT_LIST: [Entry; 1] = [entry("to_optimized_dnf", &[LIMIT, SHORT, TABLE, NODES, CLAUSES], &[0, 1, 2, 1024])];
+
 /// The walk, as far as it crosses the boundary; the sample does not show it.
 pub const WALK: [Entry; 2] = [entry("walk_check", &[LIMIT, SHORT, TABLE, REDUCED], &[0, 1, 2, 4095]), entry("kth_step", &[], EITHER)];
 
@@ -90,7 +93,7 @@ pub const READER: [Entry; 1] = [entry("read_sheet", &[LIMIT, SHORT, CLAUSE, TABL
 
 /// Every entry that a run may call, family by family.
 pub fn families() -> impl Iterator<Item = &'static [Entry]> {
-    [&ENTRIES[..], &OPERATORS, &BUILDERS, &COVER, &EXTRACTORS, &WALK, &READER].into_iter()
+    [&ENTRIES[..], &OPERATORS, &BUILDERS, &COVER, &EXTRACTORS, &SHORT_LIST, &WALK, &READER].into_iter()
 }
 
 /// How many first values of an entry are remembered.

@@ -1,11 +1,12 @@
-//! Times the builders of the proved library against the oracle, and against BuDDy where it is installed, and then the extractors on the tables
-//! that were built: a command of its own, and no test.
+//! Times the builders of the proved library against the oracle, and against BuDDy where it is installed, and then the extractors and the short list
+//! on the tables that were built: a command of its own, and no test.
 //!   cargo run --release --offline -p differ --bin bench_builders [--each] [--search SECONDS [--kind NUMBER]] [--ours NAME]
 //! `--search` looks for slow lists; `--ours` runs our side alone on the lists whose names hold NAME, for a profiler.
 //! A ratio is the other side's time by ours: above 1, ours is the quicker one.
 mod buddy;
 mod corpora;
 mod extraction;
+mod short;
 mod slow;
 
 use biodivine_lib_bdd::BddVariableSet;
@@ -117,6 +118,7 @@ fn main() {
     for (name, cases) in corpora::all() {
         time_corpus(&mut buffers, name, &cases);
         extraction::time_corpus(&cases);
+        short::time_corpus(&cases);
     }
     slow::time_slowest(&mut buffers);
 }
