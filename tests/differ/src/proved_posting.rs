@@ -3,7 +3,8 @@ use crate::answer::Outcome;
 use crate::proved::Room;
 
 extern "C" {
-    fn collartug_choose_posting(dnf: *const u64, dnf_len: usize, cnf: *const u64, cnf_len: usize, reply: *mut u64, reply_len: usize) -> u64;
+    fn collartug_choose_posting(dnf: *const u64, dnf_len: usize, cnf: *const u64, cnf_len: usize, reply: *mut u64, reply_len: usize)
+        -> u64;
 }
 
 pub fn choose_posting(room: Room, dnf: &[u64], cnf: &[u64]) -> Outcome {

@@ -16,11 +16,7 @@ fn quoted(cell: &str) -> Vec<&str> {
 }
 
 fn rows(document: &str) -> Vec<Vec<Vec<&str>>> {
-    document
-        .lines()
-        .filter(|line| line.starts_with("| `"))
-        .map(|line| line.trim_matches('|').split(" | ").map(quoted).collect())
-        .collect()
+    document.lines().filter(|line| line.starts_with("| `")).map(|line| line.trim_matches('|').split(" | ").map(quoted).collect()).collect()
 }
 
 /// A file of the repository defines the names.

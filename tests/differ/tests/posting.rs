@@ -25,7 +25,13 @@ fn wanted(part: &[u64]) -> Answer {
 fn lists_of_every_length_are_chosen_from() {
     for dnf in (0..=40).map(|count| words(100, count)) {
         for cnf in (0..=40).map(|count| words(900, count)) {
-            assert_eq!(compare(&wanted(posted(&dnf, &cnf)), &choose_posting(ROOM, &dnf, &cnf)), Ok(()), "{} and {} words", dnf.len(), cnf.len());
+            assert_eq!(
+                compare(&wanted(posted(&dnf, &cnf)), &choose_posting(ROOM, &dnf, &cnf)),
+                Ok(()),
+                "{} and {} words",
+                dnf.len(),
+                cnf.len()
+            );
         }
     }
 }
