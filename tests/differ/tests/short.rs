@@ -1,4 +1,4 @@
-//! The short list against the oracle's, clause by clause, with its rule followed a second time, and its refusals against the specification's words.
+//! The short list against the oracle's, clause by clause, and its rule followed a second time; its refusals against the specification's words.
 use biodivine_lib_bdd::Bdd;
 use differ::answer::{compare_unserved, Answer, CLAUSES, LEAST_REPLY, LIMIT, NODES, SHORT, TABLE};
 use differ::convert::as_made;
@@ -203,8 +203,8 @@ const MOST_PATHS: u64 = 300;
 fn random_run() -> Run {
     let (mut run, random, rule) = (Run::default(), &mut Random::new(82), &mut Rule::new(MOST_WRITTEN));
     for round in 0..RANDOM_ROUNDS {
-        let n = 4 + (round % 57) as u16;
-        if let Some(bdd) = some_table(random, n, random_kind(round)) {
+        let (n, kind) = (4 + (round % 57) as u16, round / 57);
+        if let Some(bdd) = some_table(random, n, kind) {
             let subject = Subject::new(rule, n, bdd);
             check_subject(&mut run, random, rule, &subject, 8);
         }
@@ -213,10 +213,6 @@ fn random_run() -> Run {
     run
 }
 const RANDOM_ROUNDS: usize = 5_000;
-
-fn random_kind(round: usize) -> usize {
-    round / 57
-}
 
 /// Numbers of marks, counts and rooms at their limits, with slices short by a word or long enough. The table says its last mark, over and over.
 fn limits(run: &mut Run, random: &mut Random) {
