@@ -1,6 +1,6 @@
 -- The specification's starred short lists, computed.
 use mathlib.Core.Path.{_≡_, refl}
-use mathlib.Core.Bool.{Bool, true, false, not, _||_, Bool·beq}
+use mathlib.Core.Bool.{Bool, true, false, not, _&&_, _||_, Bool·beq}
 use mathlib.Core.List.{[], _∷_}
 use Prim.Native.Nat.{ℕ}
 use Rattle.theory.specs.Mask.{bit, setBit}
@@ -33,3 +33,11 @@ fits-xor = refl
 over-xor : shortFits 4 2 (tabulate 2 xor2) ≡ false
 unfolding shortFits allFit called stepCalls restCalls forAlls restrictions triedExists markOf chosen fewestNodes smaller fewerNodes restOf dropMarks dropped remainder hasCore coreOf mostCases larger moreCases supportOf marksOf sameTree tabulate pointwise cofactor caseCount konst canon walk mk grow find bit setBit xor2
 over-xor = refl
+
+-- the equality test does not count: of "not x0, and not both x1 and x2" no called table has more than 5 nodes, but "that result or the core" once has 7
+apart3 : ℕ → Bool
+apart3 c = not (bit 0 c) && not (bit 1 c && bit 2 c)
+
+fits-apart : shortFits 5 3 (tabulate 3 apart3) ≡ true
+unfolding shortFits allFit called stepCalls restCalls forAlls restrictions triedExists markOf chosen fewestNodes smaller fewerNodes restOf dropMarks dropped remainder hasCore coreOf mostCases larger moreCases supportOf marksOf sameTree tabulate pointwise cofactor caseCount konst canon walk mk grow find bit setBit apart3
+fits-apart = refl
