@@ -19,8 +19,13 @@ pub fn built(builder: Builder, n: u16, clauses: &[Valuation]) -> Bdd {
     }
 }
 
-/// The opening runs one clause after another; both ways must come to the same table.
+/// The opening runs one clause after another, up to the first that is over every room.
 pub fn runs(builder: Builder, n: u16, clauses: &[Valuation]) -> Runs {
+    runs_within(MOST_NODES, builder, n, clauses)
+}
+
+/// The opening runs up to the first of over `most` nodes; both ways must come to the same table.
+pub fn runs_within(most: usize, builder: Builder, n: u16, clauses: &[Valuation]) -> Runs {
     let set = BddVariableSet::new_anonymous(n);
     let mut so_far = if builder.is_dnf() { set.mk_false() } else { set.mk_true() };
     let mut sizes = vec![so_far.size()];
@@ -31,7 +36,7 @@ pub fn runs(builder: Builder, n: u16, clauses: &[Valuation]) -> Runs {
             false => so_far.and(&set.mk_disjunctive_clause(&clause)),
         };
         sizes.push(so_far.size());
-        if so_far.size() > MOST_NODES {
+        if so_far.size() > most {
             return Runs { sizes, table: None };
         }
     }

@@ -6,8 +6,9 @@ use differ::proved::Room;
 use differ::proved_sheet::read_sheet;
 use differ::random::Random;
 use differ::reading::Valuation;
-use differ::reading_sheet::{answer, Header, CNF, DNF, NODES};
+use differ::reading_sheet::{answer, Header, CNF, DNF};
 use differ::run::{Run, Shares};
+use differ::sheets::{changed_bytes, damaged_headers, list_sheet, table_sheet};
 use differ::wrong::objects_to_alterations;
 
 /// What the runs must reach together; a large sheet has 4,096 or more bytes.
@@ -23,30 +24,6 @@ fn judge(run: &mut Run, bytes: &[u8], clause_words: usize, node_words: usize) ->
     want
 }
 
-/// A sheet of a list.
-fn list_sheet(kind: u64, n: u16, clauses: &[Valuation]) -> Vec<u8> {
-    let count = clauses.len() as u64;
-    let total = 32 + 16 * count;
-    let header = Header { version: 1, n: n.into(), clause_count: count, clause_offset: 32, node_count: 0, node_offset: 0, total, kind };
-    let section = clauses.iter().flat_map(|clause| [clause.fixed.to_le_bytes(), clause.values.to_le_bytes()].concat());
-    header.bytes().into_iter().chain(section).collect()
-}
-
-/// A sheet of a table.
-fn table_sheet(n: u16, nodes: &[u32]) -> Vec<u8> {
-    let count = nodes.len() as u64 / 3;
-    let total = 32 + 12 * count;
-    let header =
-        Header { version: 1, n: n.into(), clause_count: 0, clause_offset: 0, node_count: count, node_offset: 32, total, kind: NODES };
-    header.bytes().into_iter().chain(nodes.iter().flat_map(|word| word.to_le_bytes())).collect()
-}
-
-fn replace_word(sheet: &[u8], at: usize, word: u32) -> Vec<u8> {
-    let mut changed = sheet.to_vec();
-    changed[4 * at..4 * at + 4].copy_from_slice(&word.to_le_bytes());
-    changed
-}
-
 /// Output lengths around the need of a sheet: of the section that it has, and of the other.
 fn rooms(random: &mut Random, sheet: &[u8]) -> (usize, usize) {
     let header = Header::of(sheet);
@@ -56,18 +33,11 @@ fn rooms(random: &mut Random, sheet: &[u8]) -> (usize, usize) {
     (around(random, clauses) as usize, around(random, nodes) as usize)
 }
 
-/// Each word of the header replaced by words near it and far from it; with the other words left, and with the total set to fit.
+/// Each word of the header damaged, in rooms around what it then says.
 fn check_headers(run: &mut Run, random: &mut Random, sheet: &[u8]) {
-    const WORDS: [u32; 22] = [0, 1, 2, 3, 4, 15, 16, 31, 32, 33, 48, 60, 61, 64, 256, 1024, 1025, 4096, 4097, 65_536, 1 << 28, u32::MAX];
-    for at in 0..8 {
-        let old = u32::from_le_bytes(sheet[4 * at..4 * at + 4].try_into().unwrap());
-        for word in WORDS.into_iter().chain([old.wrapping_add(1), old.wrapping_sub(1), old << 8, old | 1 << 16, old.swap_bytes()]) {
-            let changed = replace_word(sheet, at, word);
-            let (clauses, nodes) = rooms(random, &changed);
-            judge(run, &changed, clauses, nodes);
-            let fitting = replace_word(&changed, 6, changed.len() as u32);
-            judge(run, &fitting, clauses, nodes);
-        }
+    for damaged in damaged_headers(sheet) {
+        let (clauses, nodes) = rooms(random, &damaged);
+        judge(run, &damaged, clauses, nodes);
     }
 }
 
@@ -76,12 +46,7 @@ fn check_sheet(run: &mut Run, random: &mut Random, sheet: &[u8]) {
     for _ in 0..6 {
         let (clauses, nodes) = rooms(random, sheet);
         judge(run, sheet, clauses, nodes);
-        let mut changed = sheet.to_vec();
-        for _ in 0..1 + random.below(2) {
-            let section = changed.len() - 32;
-            let at = if section == 0 || random.once_in(4) { random.below(changed.len()) } else { 32 + random.below(section) };
-            changed[at] = random.pick(&[0, 1, 255, changed[at] ^ 1, changed[at] ^ 128, changed[at].wrapping_add(1)]);
-        }
+        let changed = changed_bytes(random, sheet);
         judge(run, &changed, clauses, nodes);
         judge(run, &sheet[..random.below(sheet.len() + 1)], clauses, nodes);
         let longer = [sheet, &[random.below(256) as u8]].concat();
