@@ -15,7 +15,11 @@ calls! {
 }
 calls! {
     (n: u16, count: usize, nodes: *const u32, nodes_len: usize, reply: *mut u64, reply_len: usize):
-    collartug_inspect
+    collartug_inspect, collartug_walk_check
+}
+calls! {
+    (n: u16, count: usize, nodes: *const u32, nodes_len: usize, k: u32, reply: *mut u64, reply_len: usize):
+    collartug_kth_step
 }
 calls! {
     (n: u16, count: usize, nodes: *const u32, nodes_len: usize, a_case: u64, reply: *mut u64, reply_len: usize):
@@ -32,6 +36,14 @@ calls! {
 calls! {
     (n: u16, count: usize, nodes: *const u32, nodes_len: usize, out: *mut u64, out_len: usize, work: *mut u32, work_len: usize, reply: *mut u64, reply_len: usize):
     collartug_to_dnf, collartug_to_cnf
+}
+calls! {
+    (n: u16, count: usize, nodes: *const u32, nodes_len: usize, room: usize, out: *mut u64, out_len: usize, work: *mut u32, work_len: usize, reply: *mut u64, reply_len: usize):
+    collartug_to_optimized_dnf
+}
+calls! {
+    (dnf: *const u64, dnf_len: usize, cnf: *const u64, cnf_len: usize, reply: *mut u64, reply_len: usize):
+    collartug_choose_posting
 }
 calls! {
     (n: u16, count: usize, nodes: *const u32, nodes_len: usize, room: usize, out: *mut u32, out_len: usize, work: *mut u32, work_len: usize, reply: *mut u64, reply_len: usize):

@@ -1,4 +1,4 @@
-use crate::{answer, raw, Clause, Refusal, MOST_NODES};
+use crate::{answer, raw, words_of, Clause, Refusal, Walk, MOST_CLAUSES, MOST_NODES};
 
 /// A decision table over n marks. Only the library makes one or looks one over, so it is always ordered.
 #[derive(Clone, Debug, PartialEq, Eq)]
@@ -37,14 +37,15 @@ fn make(n: u16, room: usize, largest_input: usize, call: impl FnOnce(Lent<u32>, 
     Ok(Table { n, words: out })
 }
 
+/// The first clauses of a list in the library's words.
+fn clauses_of(words: &[u64], count: u64) -> Vec<Clause> {
+    words.chunks_exact(2).take(count as usize).map(|pair| Clause { fixed: pair[0], values: pair[1] }).collect()
+}
+
 fn build(builder: Builder, n: u16, count: usize, words: &[u64], room: usize) -> Result<Table, Refusal> {
     make(n, room, 0, |out, work, reply| unsafe {
         builder(n, count, words.as_ptr(), words.len(), room, out.0, out.1, work.0, work.1, reply.0, reply.1)
     })
-}
-
-fn words_of(clauses: &[Clause]) -> Vec<u64> {
-    clauses.iter().flat_map(|clause| [clause.fixed, clause.values]).collect()
 }
 
 impl Table {
@@ -94,7 +95,7 @@ impl Table {
         self.words.chunks_exact(3).map(|node| [node[0], node[1], node[2]])
     }
 
-    fn start(&self) -> (*const u32, usize) {
+    pub(crate) fn start(&self) -> (*const u32, usize) {
         (self.words.as_ptr(), self.words.len())
     }
 
@@ -161,7 +162,45 @@ impl Table {
         let (list, list_len) = (out.as_mut_ptr(), out.len());
         let (start, lent) = (work.as_mut_ptr(), work.len());
         let count = answer(|reply, len| unsafe { lister(self.n, self.count(), nodes, words, list, list_len, start, lent, reply, len) })?[0];
-        Ok(out.chunks_exact(2).take(count as usize).map(|pair| Clause { fixed: pair[0], values: pair[1] }).collect())
+        Ok(clauses_of(&out, count))
+    }
+
+    /// The short list: few, short clauses to post. They may overlap, so it is not for adding. The room is for the tables on the way;
+    /// refused with CLAUSES where the list has over `most` clauses.
+    ///
+    /// ```
+    /// use collartug::{Clause, Table};
+    /// let list = ["10-", "111"].map(|text| Clause::parse(text).unwrap());
+    /// let short = Table::from_dnf(3, &list, 64)?.to_optimized_dnf(64, 1024)?;
+    /// assert_eq!(short, ["1-1", "10-"].map(|text| Clause::parse(text).unwrap()));
+    /// # Ok::<(), collartug::Refusal>(())
+    /// ```
+    pub fn to_optimized_dnf(&self, room: usize, most: usize) -> Result<Vec<Clause>, Refusal> {
+        let mut lent = most.min(MOST_CLAUSES);
+        loop {
+            // this refusal does not tell the clauses needed
+            match self.short_list(room, lent) {
+                Err(refusal) if refusal.number == Refusal::CLAUSES && lent < most => lent = most.min(4 * lent),
+                other => return other,
+            }
+        }
+    }
+
+    fn short_list(&self, room: usize, most: usize) -> Result<Vec<Clause>, Refusal> {
+        let (nodes, words) = self.start();
+        let largest = room.min(MOST_NODES).max(self.count());
+        let (mut out, mut work) = (vec![0; 2 * most], vec![0; 24 * largest * (usize::from(self.n) + 2) + 192]);
+        let (list, list_len) = (out.as_mut_ptr(), out.len());
+        let (start, lent) = (work.as_mut_ptr(), work.len());
+        let count = answer(|reply, len| unsafe {
+            raw::collartug_to_optimized_dnf(self.n, self.count(), nodes, words, room, list, list_len, start, lent, reply, len)
+        })?[0];
+        Ok(clauses_of(&out, count))
+    }
+
+    /// A walk over the paths to yes, one clause after another. Refused with REDUCED where a node of the table is not needed.
+    pub fn walk(&self) -> Result<Walk<'_>, Refusal> {
+        Walk::start(self)
     }
 
     pub fn not(&self, room: usize) -> Result<Table, Refusal> {

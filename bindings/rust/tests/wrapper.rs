@@ -1,5 +1,5 @@
 //! Every call once with a known answer, and the refusals that a caller meets.
-use collartug::{Clause, Cover, Refusal, Sheet, Table};
+use collartug::{choose_posting, Clause, Cover, Posting, Refusal, Sheet, Table};
 
 fn list(texts: &[&str]) -> Vec<Clause> {
     texts.iter().map(|text| Clause::parse(text).unwrap()).collect()
@@ -62,6 +62,57 @@ fn the_cover_check_names_the_first_difference() {
     assert_eq!(cell.covers(&list(&["1-1", "10-"]), 9), Ok(Cover::Agrees));
     assert_eq!(cell.covers(&list(&["10-"]), 9), Ok(Cover::Differs(0b111)));
     assert_eq!(cell.covers(&list(&["10-", "1-1"]), 3), refused(Refusal::NODES, 1));
+}
+
+#[test]
+fn a_walk_yields_the_path_list() {
+    for (n, clauses) in [(3, vec!["10-", "1-1"]), (3, vec!["1--", "-1-", "--1"]), (2, vec![]), (2, vec!["--"]), (0, vec![""])] {
+        let table = table(n, &clauses);
+        let mut walk = table.walk().unwrap();
+        assert_eq!(walk.by_ref().collect::<Vec<_>>(), table.to_dnf(9).unwrap(), "{clauses:?}");
+        assert_eq!((walk.next(), walk.next()), (None, None));
+        assert_eq!(table.walk().unwrap().next(), table.to_dnf(9).unwrap().first().copied());
+    }
+    let nodes = |last: &[[u32; 3]]| Table::from_nodes(1, &[&[[1, 0, 0], [1, 1, 1]], last].concat()).unwrap();
+    assert_eq!(nodes(&[[0, 1, 1]]).walk().map(drop), refused(Refusal::REDUCED, 2));
+    assert_eq!(nodes(&[[0, 0, 1], [0, 0, 1]]).walk().map(drop), refused(Refusal::REDUCED, 2));
+    assert_eq!(nodes(&[[0, 1, 0]]).walk().map(|walk| walk.count()), Ok(1));
+}
+
+#[test]
+fn short_lists() {
+    let short = |n, clauses: &[&str]| texts(&table(n, clauses).to_optimized_dnf(64, 9).unwrap(), n);
+    assert_eq!(short(2, &["1-", "-1"]), ["-1", "1-"]);
+    assert_eq!(short(2, &["01", "10"]), ["10", "01"]);
+    assert_eq!(short(3, &["10-", "111"]), ["1-1", "10-"]);
+    assert_eq!((short(2, &[]), short(2, &["--"])), (vec![], vec!["--".to_string()]));
+    let cell = table(3, &["10-", "111"]);
+    assert_eq!(cell.covers(&cell.to_optimized_dnf(64, 9).unwrap(), 64), Ok(Cover::Agrees));
+    assert_eq!((cell.to_optimized_dnf(64, 1), cell.to_optimized_dnf(64, 0)), (refused(Refusal::CLAUSES, 0), refused(Refusal::CLAUSES, 0)));
+    assert_eq!(cell.to_optimized_dnf(64, usize::MAX).map(|list| list.len()), Ok(2));
+    assert_eq!(cell.to_optimized_dnf(4, 9), refused(Refusal::NODES, 0));
+    for room in [0, 1, 4097, usize::MAX] {
+        assert_eq!(cell.to_optimized_dnf(room, 9), refused(Refusal::LIMIT, 0), "room {room}");
+    }
+}
+
+/// A list longer than the first buffer that is lent: the parity of twelve marks.
+#[test]
+fn a_long_short_list() {
+    let mark = |i: u16| Table::from_dnf(12, &[Clause { fixed: 1 << i, values: 1 << i }], 9).unwrap();
+    let xor = |a: Table, b: Table| a.and_not(&b, 99).unwrap().or(&b.and_not(&a, 99).unwrap(), 99).unwrap();
+    let parity = (1..12).map(mark).fold(mark(0), xor);
+    assert_eq!(parity.to_optimized_dnf(99, 2047), refused(Refusal::CLAUSES, 0));
+    assert_eq!(parity.to_optimized_dnf(99, usize::MAX).map(|list| list.len()), Ok(2048));
+}
+
+#[test]
+fn the_list_with_fewer_clauses_is_posted() {
+    let (one, two, other) = (list(&["1-"]), list(&["10", "01"]), list(&["-1"]));
+    assert_eq!(choose_posting(&one, &two), Posting::Dnf(&one));
+    assert_eq!(choose_posting(&two, &one), Posting::Cnf(&one));
+    assert_eq!(choose_posting(&one, &other), Posting::Dnf(&one));
+    assert_eq!((choose_posting(&[], &[]), choose_posting(&one, &[])), (Posting::Dnf(&[]), Posting::Cnf(&[])));
 }
 
 #[test]
