@@ -1,5 +1,5 @@
-/* Before a list is posted: builds the table of the pocket in examples/pocket.txt, prints its path list, and checks two lists
- * against it, one right and one with an inverted loop. Everything is lent by this file; nothing is allocated. */
+/* Before a list is posted: builds the table of the pocket in examples/pocket.txt, prints its short list, checks that list and one with
+ * an inverted loop against the table, and chooses between short list and cnf. Everything is lent by this file; nothing is allocated. */
 #include "collartug.h"
 
 #include <stdio.h>
@@ -11,8 +11,8 @@ enum { MARKS = 6, ROOM = 64, MOST = 64 };
 #define LENT(buffer) buffer, sizeof buffer / sizeof buffer[0]
 
 static uint32_t table[COLLARTUG_OUT_WORDS(ROOM)];
-static uint32_t work[COLLARTUG_WORK_WORDS(ROOM)];
-static uint64_t list[2 * MOST];
+static uint32_t work[COLLARTUG_SHORT_LIST_WORK_WORDS(ROOM, MARKS)];
+static uint64_t list[2 * MOST], cnf[2 * MOST];
 static uint64_t reply[COLLARTUG_REPLY_WORDS];
 
 /* The two words of a text such as 1-0: the fixed marks, then their values. */
@@ -63,12 +63,21 @@ int main(void) {
     size_t count = reply[2];
     printf("%zu nodes\n", count);
 
-    collartug_to_dnf(MARKS, count, LENT(table), LENT(list), LENT(work), LENT(reply));
-    if (refused("to_dnf"))
+    collartug_to_optimized_dnf(MARKS, count, LENT(table), ROOM, LENT(list), LENT(work), LENT(reply));
+    if (refused("to_optimized_dnf"))
         return 1;
-    size_t paths = reply[2];
-    for (size_t i = 0; i < paths; i++)
+    size_t clauses = reply[2];
+    for (size_t i = 0; i < clauses; i++)
         print(list[2 * i], list[2 * i + 1]);
+    if (check("short list", count, clauses, list) || check("inverted list", count, 2, inverted))
+        return 1;
 
-    return check("path list", count, paths, list) || check("inverted list", count, 2, inverted);
+    collartug_to_cnf(MARKS, count, LENT(table), LENT(cnf), LENT(work), LENT(reply));
+    if (refused("to_cnf"))
+        return 1;
+    size_t others = reply[2];
+    /* only the filled part of each buffer is passed; the answer is the words of the list to post, and on a tie it is the first */
+    collartug_choose_posting(list, 2 * clauses, cnf, 2 * others, LENT(reply));
+    printf("%zu or %zu clauses: post the %s\n", clauses, others, reply[2] == 2 * clauses ? "short list" : "cnf");
+    return 0;
 }

@@ -30,6 +30,8 @@ extern "C" {
 #define COLLARTUG_OUT_WORDS(room) (3 * (size_t)(room))
 /* Words of work; `largest` is the larger of the room and of every node count that goes in. */
 #define COLLARTUG_WORK_WORDS(largest) (12 * (size_t)(largest) + 192)
+/* The short list's words of work, for n marks. */
+#define COLLARTUG_SHORT_LIST_WORK_WORDS(largest, n) (24 * (size_t)(largest) * ((size_t)(n) + 2) + 192)
 
 enum collartug_refusal {
     COLLARTUG_LIMIT = 1,
@@ -93,8 +95,8 @@ uint64_t collartug_check_cover(uint16_t n, size_t count, const uint32_t *nodes, 
 uint64_t collartug_to_dnf(uint16_t n, size_t count, const uint32_t *nodes, size_t nodes_len, uint64_t *out, size_t out_len, uint32_t *work,
     size_t work_len, uint64_t *reply, size_t reply_len);
 
-/* The short list: few, short clauses to post; they may overlap, so it is not for adding. Work: 24 * W * (n + 2) + 192 words, W the larger of room and count. Both NODES and
- * CLAUSES name 0. */
+/* The short list: few, short clauses to post; they may overlap, so it is not for adding. Work: COLLARTUG_SHORT_LIST_WORK_WORDS. Both
+ * NODES and CLAUSES name 0. */
 uint64_t collartug_to_optimized_dnf(uint16_t n, size_t count, const uint32_t *nodes, size_t nodes_len, size_t room, uint64_t *out, size_t out_len,
     uint32_t *work, size_t work_len, uint64_t *reply, size_t reply_len);
 

@@ -8,8 +8,6 @@ use std::path::{Path, PathBuf};
 use std::process::{Command, Output};
 
 const PAGES: [&str; 2] = ["README.md", "docs/USING.md"];
-/// What the gate has done before these tests: the proofs, and the library that the copy is given.
-const DONE_BY_THE_GATE: &str = "rt check exports && tests/native-lib exports";
 const REFUSALS: [&str; 9] = ["LIMIT", "SHORT", "VARIABLE", "CLAUSE", "TABLE", "REDUCED", "NODES", "CLAUSES", "SHEET"];
 
 /// A folder that goes when it is done with.
@@ -131,9 +129,6 @@ fn every_command_shows_what_its_page_shows() {
     let mut ran = 0;
     for page in PAGES {
         for shown in commands(&read_to_string(root().join(page)).unwrap()) {
-            if shown.command == DONE_BY_THE_GATE {
-                continue;
-            }
             let output = folder.run(&shown.command);
             assert_eq!(String::from_utf8_lossy(&output.stdout), shown.output, "{page}:{}: {}", shown.line, shown.command);
             ran += 1;
@@ -162,9 +157,10 @@ fn wrapper_and_header(folder: &Folder) {
 #[test]
 fn the_short_list_of_the_readme_is_the_oracles() {
     let (n, table) = example("cell.txt");
-    let clauses: Vec<String> = table.to_optimized_dnf().iter().map(|clause| format!("`{}`", text(clause, n))).collect();
-    let wanted = format!("The short list is {}:", clauses.join(", "));
-    assert!(read_to_string(root().join("README.md")).unwrap().contains(&wanted), "{wanted}");
+    let clauses: String = table.to_optimized_dnf().iter().map(|clause| text(clause, n) + "\n").collect();
+    let shown = commands(&read_to_string(root().join("README.md")).unwrap());
+    let short = shown.iter().find(|shown| shown.command == "tools/proved short cell.sheet").unwrap();
+    assert_eq!(short.output, format!("dnf {n}\n{clauses}"));
 }
 
 /// The names that follow a word, up to a bracket.
@@ -292,7 +288,8 @@ fn wrong_sheets_are_told_by_byte() {
 }
 
 #[test]
-fn the_tool_can_be_run() {
-    let mode = root().join("tools/sheet").metadata().unwrap().permissions().mode();
-    assert_eq!(mode & 0o111, 0o111);
+fn the_tools_can_be_run() {
+    for tool in ["tools/sheet", "tools/proved", "run", "test"] {
+        assert_eq!(root().join(tool).metadata().unwrap().permissions().mode() & 0o111, 0o111, "{tool}");
+    }
 }
