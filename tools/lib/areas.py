@@ -1,8 +1,12 @@
 """Areas of cells, added clause by clause. A cell in two clauses is an objection: it would be counted twice."""
-from decimal import Decimal, InvalidOperation
+import decimal
+import re
+from decimal import Decimal
 
 from forms import bad_clause, plural
-from wrong import Wrong
+from wrong import Wrong, quoted
+
+decimal.getcontext().prec = 60  # sums of areas are exact: each has at most 15 digits before and behind the point
 
 
 def read(name, data, n):
@@ -23,20 +27,18 @@ def read_cell(where, words, n):
     if n == 0:
         words = [""] + words
     if len(words) != 2:
-        raise Wrong(f"{where}: '{' '.join(words)}': a cell is its marks and its area, such as '110 6.5'")
+        raise Wrong(f"{where}: {quoted(' '.join(words))}: a cell is its marks and its area, such as '110 6.5'")
     marks, area = words
     objection = bad_clause(marks, n)
     if not objection and "-" in marks:
-        objection = f"'-' in column {marks.index('-') + 1}: a cell has every mark, 1 or 0"
+        objection = f"'-' in column {marks.index('-') + 1} of '{marks}': a cell has every mark, 1 or 0"
     if objection:
         raise Wrong(f"{where}: {objection}")
-    try:
-        value = Decimal(area)
-    except InvalidOperation:
-        raise Wrong(f"{where}: area '{area}' is not a number") from None
-    if not value.is_finite() or value < 0:
-        raise Wrong(f"{where}: area {area}: an area is 0 or more")
-    return marks, value
+    if re.fullmatch(r"-[0-9.]+", area):
+        raise Wrong(f"{where}: area {quoted(area)}: an area is 0 or more")
+    if not re.fullmatch(r"[0-9]{1,15}(\.[0-9]{1,15})?", area):
+        raise Wrong(f"{where}: area {quoted(area)} is not a number such as 6 or 6.5 (at most 15 digits before and behind the point)")
+    return marks, Decimal(area)
 
 
 def holds(clause, marks):

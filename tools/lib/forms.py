@@ -1,5 +1,5 @@
 """What a file may hold: a list of clauses, a table, the program's output, a refusal."""
-from wrong import Wrong
+from wrong import Wrong, quoted
 
 MOST_MARKS, MOST_CLAUSES, MOST_NODES = 60, 1024, 4096
 
@@ -31,9 +31,9 @@ def bad_clause(clause, n):
     """What is wrong with a clause's text, or None."""
     for column, cell in enumerate(clause, 1):
         if cell not in "01-":
-            return f"'{cell}' in column {column}: a mark is 1, 0 or -"
+            return f"'{cell}' in column {column} of {quoted(clause)}: a mark is 1, 0 or -"
     if len(clause) != n:
-        return f"'{clause}' has {plural(len(clause), 'mark')}, not {n}"
+        return f"{quoted(clause)} has {plural(len(clause), 'mark')}, not {n}"
     return None
 
 
@@ -148,4 +148,5 @@ class Refused:
     def table(self, name):
         raise Wrong(f"{name}: no table: {self.shown().rstrip()}")
 
-    disjoint_list = table
+    def disjoint_list(self, name):
+        raise Wrong(f"{name}: no list: {self.shown().rstrip()}")

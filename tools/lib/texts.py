@@ -2,7 +2,7 @@
 import re
 
 from forms import MOST_CLAUSES, MOST_MARKS, MOST_NODES, REFUSALS, Listing, Output, Refused, Table, bad_clause, bad_node, cases
-from wrong import Wrong
+from wrong import Wrong, quoted
 
 
 def read(name, data):
@@ -19,8 +19,8 @@ def read(name, data):
 
 
 def number(where, word, what):
-    if not re.fullmatch(r"[0-9]{1,20}", word):
-        raise Wrong(f"{where}: {what} is '{word}', not a number")
+    if not re.fullmatch(r"[0-9]{1,50}", word):
+        raise Wrong(f"{where}: {what} is {quoted(word)}, not a whole number")
     return int(word)
 
 
@@ -43,7 +43,7 @@ def read_list(name, lines):
 def read_heading(where, body):
     words = body.split()
     if len(words) != 2 or words[0] not in ("dnf", "cnf", "table"):
-        raise Wrong(f"{where}: '{body}': a text begins with 'dnf N', 'cnf N' or 'table N'")
+        raise Wrong(f"{where}: {quoted(body)}: a text begins with 'dnf N', 'cnf N' or 'table N'")
     n = number(where, words[1], "the number of marks")
     if n > MOST_MARKS:
         raise Wrong(f"{where}: {n} marks; at most {MOST_MARKS}")
@@ -65,7 +65,7 @@ def read_nodes(name, n, entries):
     for index, (at, body) in enumerate(entries):
         words = body.split()
         if len(words) != 3:
-            raise Wrong(f"{name}:{at}: '{body}': a node is 'mark low high'")
+            raise Wrong(f"{name}:{at}: {quoted(body)}: a node is 'mark low high'")
         nodes.append(tuple(number(f"{name}:{at}", word, what) for word, what in zip(words, ("the mark", "low", "high"))))
         objection = f"over {MOST_NODES} nodes" if index == MOST_NODES else bad_node(nodes, index, n)
         if objection:
@@ -97,7 +97,7 @@ def read_output(name, lines):
             raise Wrong(f"{name}:{at}: ends before '{word} ..': not the whole output")
         match = re.fullmatch(word + r" ([0-9]{1,5})", lines[at - 1])
         if not match or int(match[1]) > most:
-            raise Wrong(f"{name}:{at}: '{lines[at - 1]}', where '{word} NUMBER' (at most {most}) is wanted")
+            raise Wrong(f"{name}:{at}: {quoted(lines[at - 1])}, where '{word} NUMBER' (at most {most}) is wanted")
         return int(match[1])
 
     def clauses(word):
@@ -114,7 +114,7 @@ def read_output(name, lines):
     n, count = counted("vars", MOST_MARKS), counted("nodes", MOST_NODES)
     dnf, cnf = clauses("dnf"), clauses("cnf")
     if at < len(lines):
-        raise Wrong(f"{name}:{at + 1}: '{lines[at]}' after the end of the output")
+        raise Wrong(f"{name}:{at + 1}: {quoted(lines[at])} after the end of the output")
     spoken = sum(map(cases, dnf + cnf))
     if spoken != 2**n:
         raise Wrong(f"{name}: its clauses speak of {spoken} cases, there are {2**n}: not the whole output")

@@ -216,24 +216,50 @@ fn sheets_are_shown_as_they_were_written() {
 fn wrong_use_is_told_by_file_and_line() {
     let folder = Folder::new("wrong");
     let begins = "a text begins with 'dnf N', 'cnf N' or 'table N'";
+    let wants = "'make' wants a text that begins with 'dnf N', 'cnf N' or 'table N'";
     let many = format!("dnf 2\n{}", "11\n".repeat(1025));
-    let wrong: [(&str, &str, &str); 36] = [
+    let long = format!("dnf 3\n{}", "0".repeat(5000));
+    let areas = "is not a number such as 6 or 6.5 (at most 15 digits before and behind the point)";
+    let commands = "it is one of make, show, draw, dot, areas; tools/sheet help";
+    let wrong: [(&str, &str, &str); 81] = [
         ("", "make x", &format!("x: nothing in it; {begins}")),
         ("hello", "make x", &format!("x:1: 'hello': {begins}")),
-        ("# remark\ndnf x", "make x", "x:2: the number of marks is 'x', not a number"),
+        ("# remark\ndnf x", "make x", "x:2: the number of marks is 'x', not a whole number"),
+        ("dnf -1", "make x", "x:1: the number of marks is '-1', not a whole number"),
+        ("dnf 3.0", "make x", "x:1: the number of marks is '3.0', not a whole number"),
+        ("dnf 99999999999999999999999", "make x", "x:1: 99999999999999999999999 marks; at most 60"),
+        ("dnf", "make x", &format!("x:1: 'dnf': {begins}")),
+        ("dnf 3 4", "make x", &format!("x:1: 'dnf 3 4': {begins}")),
+        ("DNF 3", "make x", &format!("x:1: 'DNF 3': {begins}")),
+        ("\u{feff}dnf 3", "make x", &format!("x:1: '\\ufeffdnf 3': {begins}")),
         ("dnf 61", "make x", "x:1: 61 marks; at most 60"),
         ("dnf 3\n1-0\n1-", "make x", "x:3: '1-' has 2 marks, not 3"),
-        ("dnf 3\n1x0", "make x", "x:2: 'x' in column 2: a mark is 1, 0 or -"),
+        ("dnf 3\n1x0", "make x", "x:2: 'x' in column 2 of '1x0': a mark is 1, 0 or -"),
+        ("dnf 3\n  1-0 1", "make x", "x:2: ' ' in column 4 of '1-0 1': a mark is 1, 0 or -"),
+        ("dnf 3\n1\u{1b}0", "make x", "x:2: '\\x1b' in column 2 of '1\\x1b0': a mark is 1, 0 or -"),
+        ("dnf 3\n1é0", "make x", "x:2: 'é' in column 2 of '1é0': a mark is 1, 0 or -"),
+        ("dnf 2\n11\ndnf 2", "make x", "x:3: 'd' in column 1 of 'dnf 2': a mark is 1, 0 or -"),
+        ("dnf 0\n1", "make x", "x:2: '1' has 1 mark, not 0"),
+        (&long, "make x", &format!("x:2: '{}..' has 5000 marks, not 3", "0".repeat(64))),
         (&many, "make x", "x:1026: over 1024 clauses"),
         ("table 2\n2 0 0\n2 1 1\n0 1", "make x", "x:4: '0 1': a node is 'mark low high'"),
         ("table 2\n2 0 0\n2 1 1\n0 1 2", "make x", "x:4: node 2 has high link 2: links lead to earlier nodes"),
         ("table 2\n2 0 0\n2 1 1\n1 0 1\n1 2 0", "make x", "x:5: node 3 asks mark 1, but its low link 2 asks mark 1: marks must rise"),
         ("table 2\n2 0 0\n2 1 1\n2 0 1", "make x", "x:4: node 2 asks mark 2, there are 2"),
         ("table 2\n", "make x", "x: a table has at least node 0, which is '2 0 0'"),
+        ("table 2\n2 1 1\n", "make x", "x:2: node 0 is (2,1,1), not (2,0,0)"),
+        ("table 2\n2 0 0\n2 0 0\n", "make x", "x:3: node 1 is (2,0,0), not (2,1,1)"),
+        ("table 2\n2 0 0\n2 1 1\n0 0 -1\n", "make x", "x:4: high is '-1', not a whole number"),
+        ("vars 1\nnodes 3\ndnf 1\n1\ncnf 1\n1\n", "make x", &format!("x: this is the program's output already; {wants}")),
+        ("refused 9 0\n", "make x", &format!("x: this is a refusal already; {wants}")),
         ("\u{1}\0", "show x", "x: 2 bytes, a sheet has at least 32 (refused 9 0)"),
         ("vars 2\nnodes 4\ndnf 1\n11\ncnf 2\n1-\n", "show x", "x:7: ends after 1 of 2 cnf clauses"),
         ("vars 2\nnodes 4\n", "show x", "x:3: ends before 'dnf ..': not the whole output"),
         ("vars 61\n", "show x", "x:1: 'vars 61', where 'vars NUMBER' (at most 60) is wanted"),
+        ("vars 2\r\n", "show x", "x:1: 'vars 2\\r', where 'vars NUMBER' (at most 60) is wanted"),
+        ("vars 2\n\nnodes 4\n", "show x", "x:2: '', where 'nodes NUMBER' (at most 4096) is wanted"),
+        ("vars 2\nnodes 4\ndnf 1\n1x\n", "show x", "x:4: 'x' in column 2 of '1x': a mark is 1, 0 or -"),
+        ("vars 2\nnodes 4\ndnf 1\n11\ncnf 9999\n", "show x", "x:5: 'cnf 9999', where 'cnf NUMBER' (at most 1024) is wanted"),
         ("vars 1\nnodes 3\ndnf 1\n1\ncnf 1\n1\nmore", "show x", "x:7: 'more' after the end of the output"),
         ("vars 1\nnodes 3\ndnf 1\n1\ncnf 0\n", "show x", "x: its clauses speak of 1 cases, there are 2: not the whole output"),
         ("vars 1\nnodes 4\ndnf 1\n1\ncnf 1\n1\n", "draw x", "x:2: 'nodes 4', but the paths are those of a table of 3"),
@@ -241,26 +267,68 @@ fn wrong_use_is_told_by_file_and_line() {
         ("vars 1\nnodes 2\ndnf 2\n0\n1\ncnf 0\n", "draw x", "x:4: clause 0 asks mark 0 in vain: not a path list"),
         ("refused 4\n", "show x", "x:1: a refusal is one line, 'refused NUMBER PLACE'"),
         ("refused 12 0\n", "show x", "x:1: no refusal has number 12"),
+        ("refused 1 0\nmore\n", "show x", "x:1: a refusal is one line, 'refused NUMBER PLACE'"),
+        ("refused x 0\n", "show x", "x:1: the refusal is 'x', not a whole number"),
+        ("refusedly\n", "show x", &format!("x:1: 'refusedly': {begins}")),
         ("refused 2 0\n", "dot x", "x: no table: refused 2 0: SHORT: a lent buffer is too small; lend what the header says"),
         ("dnf 2\n11", "dot x", "x: this is a list of clauses; its table comes from what ./run prints about its sheet"),
-        ("table 1\n1 0 0\n", "draw x a,b", "2 names for 1 marks: a,b"),
+        ("table 1\n1 0 0\n", "draw x a,b", "2 names for 1 mark: 'a,b'"),
+        ("table 2\n2 0 0\n", "dot x ''", "1 name for 2 marks: ''"),
+        ("table 1\n1 0 0\n", "draw x \"$(printf 'a\\001b')\"", "the name of mark 0, 'a\\x01b', has a character that cannot be drawn"),
+        ("table 1\n1 0 0\n", "draw x \"$(printf 'a\\377b')\"", "the name of mark 0, 'a\\udcffb', has a character that cannot be drawn"),
+        ("table 1\n1 0 0\n", "dot x \"$(printf 'a\\nb')\"", "the name of mark 0, 'a\\nb', has a character that cannot be drawn"),
         ("cnf 2\n11", "areas x x", "x: this is a cnf list; areas are added over a dnf list, such as what ./run prints"),
         ("table 1\n1 0 0", "areas x x", "x: this is a table; areas are added over a list, such as what ./run prints"),
         ("11", "areas y x", "x:1: '11': a cell is its marks and its area, such as '110 6.5'"),
-        ("11 2\n1- 5", "areas y x", "x:2: '-' in column 2: a cell has every mark, 1 or 0"),
-        ("11 wide", "areas y x", "x:1: area 'wide' is not a number"),
-        ("11 -3", "areas y x", "x:1: area -3: an area is 0 or more"),
+        ("11 2\n1- 5", "areas y x", "x:2: '-' in column 2 of '1-': a cell has every mark, 1 or 0"),
+        ("111 2", "areas y x", "x:1: '111' has 3 marks, not 2"),
+        ("1x 2", "areas y x", "x:1: 'x' in column 2 of '1x': a mark is 1, 0 or -"),
+        ("11 2 3", "areas y x", "x:1: '11 2 3': a cell is its marks and its area, such as '110 6.5'"),
+        ("11 wide", "areas y x", &format!("x:1: area 'wide' {areas}")),
+        ("11 6,5", "areas y x", &format!("x:1: area '6,5' {areas}")),
+        ("11 1e5", "areas y x", &format!("x:1: area '1e5' {areas}")),
+        ("11 nan", "areas y x", &format!("x:1: area 'nan' {areas}")),
+        ("11 -3", "areas y x", "x:1: area '-3': an area is 0 or more"),
+        ("refused 2 0\n", "areas x x", "x: no list: refused 2 0: SHORT: a lent buffer is too small; lend what the header says"),
         ("", "make absent", "absent: No such file or directory"),
+        ("", "make ''", "'': No such file or directory"),
+        ("", "show /", "/: Is a directory"),
+        ("", "areas y /", "/: Is a directory"),
+        ("", "show /dev/zero", "/dev/zero: over 67108864 bytes; no sheet, text or list of cells is that long"),
+        ("", "show - <&-", "standard input is closed"),
+        ("dnf 2\n11", "show x >/dev/full", "standard output: No space left on device"),
         ("", "areas - -", "only one of FILE and CELLS can be standard input"),
-        ("", "frob x", "no command 'frob': it is one of make, show, draw, dot, areas"),
+        ("", "", &format!("no command: {commands}")),
+        ("", "frob x", &format!("no command 'frob': {commands}")),
+        ("", "make", "'make' takes 1 argument, 0 given; tools/sheet help"),
+        ("", "areas x", "'areas' takes 2 arguments, 1 given; tools/sheet help"),
         ("", "draw x y z", "'draw' takes 1 or 2 arguments, 3 given; tools/sheet help"),
     ];
     write(folder.0.join("y"), "dnf 2\n11\n").unwrap();
+    let bytes: [(&[u8], &str, &str); 3] = [
+        (b"dnf 3\n1\xe90", "make x", "x: byte 7 is no text, and the first word is not a sheet's version 1"),
+        (b"\xff\xfe\x00\x01", "show x", "x: 4 bytes, a sheet has at least 32 (refused 9 0)"),
+        (b"\xff\xfe\x00\x01", "areas y x", "x: byte 0 is no text; lines such as '110 6.5' are wanted"),
+    ];
+    for (content, words, objection) in bytes {
+        assert_eq!(String::from_utf8_lossy(&tool(&folder, content, words).stdout), format!("sheet: {objection}\n"), "{words}");
+    }
     for (content, words, objection) in wrong {
         let output = tool(&folder, content.as_bytes(), words);
         assert_eq!(String::from_utf8_lossy(&output.stdout), format!("sheet: {objection}\n"), "{words} of {content:.40}");
         assert!(matches!(output.status.code(), Some(1 | 2)), "{words} of {content:.40}");
     }
+}
+
+#[test]
+fn names_may_have_any_characters_that_can_be_drawn() {
+    let folder = Folder::new("names");
+    let parsed = "draw x '<a> & \"b\\' | python3 -c 'import sys, xml.dom.minidom as dom; \
+                  print(dom.parse(sys.stdin).getElementsByTagName(\"text\")[0].firstChild.data)'";
+    let table = b"table 1\n1 0 0\n1 1 1\n0 0 1\n";
+    assert_eq!(String::from_utf8_lossy(&tool(&folder, table, parsed).stdout), "0 <a> & \"b\\\n");
+    let dot = tool(&folder, table, "dot x '<a> & \"b\\'").stdout;
+    assert!(String::from_utf8_lossy(&dot).contains(r#"[label="0 <a> & \"b\\", tooltip="node 2"]"#));
 }
 
 #[test]
