@@ -1,12 +1,14 @@
 """A table as a picture: a row for each mark, in order; low links dashed, high links solid; yes and no at the bottom."""
 from html import escape
 from math import fsum
+from unicodedata import east_asian_width
 
 from wrong import Wrong
 
 MOST_DRAWN = 256
 ROW, RADIUS, MARGIN = 84, 17, 24
-GAPS = (74, 52, 34)  # between two nodes, a node and a stop, two stops
+NODE_REACH, STOP_REACH = 37, 17  # half of the room that each wants in its row
+BOX, ENTRY = 40, 12  # the width of yes and no; where many links lead to one of them, the room for each
 SWEEPS = 24
 
 
@@ -31,6 +33,7 @@ class Layout:
         self.enter_all(shown)
         self.order_rows()
         self.spread()
+        self.settle_ends()
 
     def enter(self, item, row):
         self.rows[row].append(item)
@@ -69,28 +72,42 @@ class Layout:
 
     def spread(self):
         """Moves each item towards the middle of its neighbours, as far as the gaps of its row let it."""
-        self.x = {item: i * GAPS[0] for row in self.rows for i, item in enumerate(row)}
+        self.x = {item: i * 2 * NODE_REACH for row in self.rows for i, item in enumerate(row)}
         for sweep in range(SWEEPS):
             for row in self.rows if sweep % 2 == 0 else reversed(self.rows):
                 wish = [middle([self.x[other] for other in self.above[item] + self.below[item]], self.x[item]) for item in row]
-                self.x.update(zip(row, kept_apart(wish, gaps(row))))
-        least = min(self.x.values())
+                self.x.update(zip(row, kept_apart(wish, self.gaps(row))))
+        least = min(x - self.overhang(item) for item, x in self.x.items())
         self.x = {item: x - least for item, x in self.x.items()}
-        self.width = max(self.x.values())
+        self.width = max(x + self.overhang(item) for item, x in self.x.items())
+
+    def box(self, end):
+        """The width of yes or no: each link has a place of its own at its top."""
+        return max(BOX, ENTRY * (len(self.above[end]) + 1))
+
+    def overhang(self, item):
+        return (self.box(item) - BOX) / 2 if item in (0, 1) else 0
+
+    def gaps(self, row):
+        """The offset of each item where all stand as close as they may: nodes need more room than stops."""
+        reach = [STOP_REACH if is_stop(item) else NODE_REACH + self.overhang(item) for item in row]
+        return [0] + [sum(reach[:i]) + sum(reach[1:i + 1]) for i in range(1, len(row))] if row else []
+
+    def settle_ends(self):
+        """On which side each link leaves its node, and where it enters yes or no, from the left to the right as they come."""
+        self.side, self.entry = {}, {}
+        for (low, _), (high, _) in zip(self.chains[::2], self.chains[1::2]):
+            side = -1 if self.x[low[1]] <= self.x[high[1]] else 1
+            self.side[low[0], 0], self.side[high[0], 1] = side, -side
+        for end in (0, 1):
+            links = [(chain[0], high, chain) for chain, high in self.chains if chain[-1] == end]
+            links.sort(key=lambda link: self.x[link[2][-2]] + (8 * self.side[link[:2]] if len(link[2]) == 2 else 0))
+            for i, link in enumerate(links):
+                self.entry[link[:2]] = ENTRY * (i - (len(links) - 1) / 2)
 
 
 def middle(places, otherwise):
     return fsum(places) / len(places) if places else otherwise
-
-
-def gaps(row):
-    """The offset of each item where all stand as close as they may: nodes need more room than stops."""
-    offsets, at = [], 0
-    for i, item in enumerate(row):
-        if i > 0:
-            at += GAPS[is_stop(row[i - 1]) + is_stop(item)]
-        offsets.append(at)
-    return offsets
 
 
 def is_stop(item):
@@ -113,13 +130,18 @@ def mark_label(mark, names):
     return f"mark {mark}" if names is None else f"{mark} {names[mark]}"
 
 
+def text_width(label):
+    """About how wide a label is: no font is asked."""
+    return sum(15 if east_asian_width(c) in "WF" or c in "WM@%" else 11 if c.isupper() else 8 for c in label)
+
+
 def svg(table, names):
     if len(table.nodes) > MOST_DRAWN:
         raise Wrong(f"{len(table.nodes)} nodes: over {MOST_DRAWN} no picture can be read; 'dot' writes the table for graphviz")
     layout = Layout(table)
     labels = [mark_label(mark, names) for mark in layout.marks]
-    left = MARGIN + 30 + 8 * max(map(len, labels), default=0)
-    width = max(left + layout.width + 2 * MARGIN + RADIUS, 380)
+    left = MARGIN + 30 + max(map(text_width, labels), default=0)
+    width = max(left + layout.width + 2 * MARGIN + RADIUS, 400)
     bottom = MARGIN + 20 + ROW * len(layout.marks)
     height = bottom + RADIUS + 58
 
@@ -133,24 +155,22 @@ def svg(table, names):
     for row, label in enumerate(labels):
         y = MARGIN + 20 + ROW * row
         parts.append(f'<line x1="{MARGIN}" y1="{y}" x2="{width - MARGIN:.0f}" y2="{y}" stroke="#e4e4e4"/>')
-        parts.append(f'<rect x="{MARGIN - 6}" y="{y - 11}" width="{8 * len(label) + 14}" height="22" fill="white"/>')
+        parts.append(f'<rect x="{MARGIN - 6}" y="{y - 11}" width="{text_width(label) + 14}" height="22" fill="white"/>')
         parts.append(f'<text x="{MARGIN}" y="{y + 5}" text-anchor="start" fill="#555555">{escape(label)}</text>')
-    for low, high in zip(layout.chains[::2], layout.chains[1::2]):
-        side = -1 if layout.x[low[0][1]] <= layout.x[high[0][1]] else 1
-        parts += [link_path(*low, side, layout, point), link_path(*high, -side, layout, point)]
-    parts += [node_shape(i, *point(i, row)) for i, row in sorted(layout.row.items())]
+    parts += [link_path(*link, layout, point) for link in layout.chains]
+    parts += [node_shape(layout, i, *point(i, row)) for i, row in sorted(layout.row.items())]
     parts += legend(height - 22)
     return "\n".join(parts) + "\n</svg>\n"
 
 
-def link_path(chain, high, side, layout, point):
+def link_path(chain, high, layout, point):
     """From a side of the node's foot down to the top of the node it leads to, on the side where it comes from."""
     row = layout.row[chain[0]]
     points = [point(item, row + i) for i, item in enumerate(chain)]
     x, y = points[0]
-    points[0] = (x + side * 8, y + RADIUS - 2)
+    points[0] = (x + layout.side[chain[0], high] * 8, y + RADIUS - 2)
     x, y = points[-1]
-    points[-1] = (x + (5 if points[-2][0] > x else -5), y - RADIUS + 1)
+    points[-1] = (x + layout.entry.get((chain[0], high), 5 if points[-2][0] > x else -5), y - RADIUS + 1)
     curve = f"M{points[0][0]:.1f},{points[0][1]:.1f}"
     for (x0, y0), (x1, y1) in zip(points, points[1:]):
         half = (y0 + y1) / 2
@@ -159,12 +179,13 @@ def link_path(chain, high, side, layout, point):
     return f'<path d="{curve}" fill="none" stroke="{"#000000" if high else "#2060a0"}" stroke-width="1.6"{dashes}/>'
 
 
-def node_shape(i, x, y):
+def node_shape(layout, i, x, y):
     if i >= 2:
         shape = f'<circle cx="{x:.1f}" cy="{y}" r="{RADIUS}" fill="#fff8e0" stroke="#000000"/>'
         return shape + f'<text x="{x:.1f}" y="{y + 5}">{i}</text>'
     word, fill = ("no", "#e0e0e0") if i == 0 else ("yes", "#c8e8c0")
-    shape = f'<rect x="{x - 20:.1f}" y="{y - RADIUS}" width="40" height="{2 * RADIUS}" fill="{fill}" stroke="#000000"/>'
+    wide = layout.box(i)
+    shape = f'<rect x="{x - wide / 2:.1f}" y="{y - RADIUS}" width="{wide}" height="{2 * RADIUS}" fill="{fill}" stroke="#000000"/>'
     return shape + f'<text x="{x:.1f}" y="{y + 5}">{word}</text>'
 
 
@@ -174,7 +195,7 @@ def legend(y):
             f'<text x="{MARGIN + 40}" y="{y + 4}" {text}>0 (low)</text>',
             f'<line x1="{MARGIN + 104}" y1="{y}" x2="{MARGIN + 138}" y2="{y}" stroke="#000000" stroke-width="1.6"/>',
             f'<text x="{MARGIN + 144}" y="{y + 4}" {text}>1 (high)</text>',
-            f'<text x="{MARGIN + 214}" y="{y + 4}" {text}>in circles: nodes</text>']
+            f'<text x="{MARGIN + 214}" y="{y + 4}" {text}>circles: node numbers</text>']
 
 
 def dot(table, names):

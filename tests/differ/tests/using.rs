@@ -2,6 +2,7 @@
 //! shows; the tool objects to wrong use by file and line; the header names every export; the wrapper's own tests pass.
 use biodivine_lib_bdd::{Bdd, BddPartialValuation, BddVariable, BddVariableSet};
 use differ::root;
+use std::collections::BTreeSet;
 use std::fs::{copy, create_dir_all, read, read_dir, read_to_string, remove_dir_all, write};
 use std::os::unix::fs::PermissionsExt;
 use std::path::{Path, PathBuf};
@@ -329,6 +330,32 @@ fn names_may_have_any_characters_that_can_be_drawn() {
     assert_eq!(String::from_utf8_lossy(&tool(&folder, table, parsed).stdout), "0 <a> & \"b\\\n");
     let dot = tool(&folder, table, "dot x '<a> & \"b\\'").stdout;
     assert!(String::from_utf8_lossy(&dot).contains(r#"[label="0 <a> & \"b\\", tooltip="node 2"]"#));
+}
+
+/// Of each node a dashed link and a solid one; every link to yes or no ends at a place of its own; a row for each mark, downwards.
+#[test]
+fn links_and_rows_of_a_picture_are_told_apart() {
+    let folder = Folder::new("picture");
+    // the parity of six marks: two nodes a row below the first
+    let rows = (0..5).flat_map(|k| {
+        let mark = 5 - k;
+        [format!("{mark} {} {}", 2 * k, 2 * k + 1), format!("{mark} {} {}", 2 * k + 1, 2 * k)]
+    });
+    let nodes: Vec<String> = ["6 0 0".to_string(), "6 1 1".to_string()].into_iter().chain(rows).chain(["0 10 11".to_string()]).collect();
+    let drawn = tool(&folder, format!("table 6\n{}\n", nodes.join("\n")).as_bytes(), "draw x a,b,c,d,e,f").stdout;
+    let drawn = String::from_utf8(drawn).unwrap();
+    let links: Vec<&str> = drawn.lines().filter(|line| line.starts_with("<path ")).collect();
+    let dashed = links.iter().filter(|line| line.contains("stroke-dasharray")).count();
+    assert_eq!((links.len(), dashed), (22, 11));
+    let end = |line: &str| line.split('"').nth(1).unwrap().rsplit(' ').next().unwrap().to_string();
+    let height = |end: &String| end.split_once(',').unwrap().1.parse::<f64>().unwrap();
+    let ends: Vec<String> = links.iter().map(|line| end(line)).collect();
+    let lowest = ends.iter().map(height).fold(0.0, f64::max);
+    let last: Vec<&String> = ends.iter().filter(|end| height(end) == lowest).collect();
+    assert_eq!((last.len(), last.iter().collect::<BTreeSet<_>>().len()), (4, 4));
+    let places: Vec<usize> =
+        ["0 a", "1 b", "2 c", "3 d", "4 e", "5 f"].map(|name| drawn.find(&format!(">{name}</text>")).unwrap()).to_vec();
+    assert!(places.is_sorted());
 }
 
 #[test]
