@@ -1,10 +1,11 @@
 //! The program as a process against a second reading of what it prints: the specification's own sheets, and a hundred thousand others,
 //! whole and damaged. On another machine than x86-64 each start takes the emulator a fiftieth of a second; there the same proved module,
 //! compiled for the machine, prints them all, and the file that ./run starts prints one in fifty.
+use biodivine_lib_bdd::{Bdd, BddVariableSet};
 use differ::answer::{CLAUSE, CLAUSES, LIMIT, NODES, SHEET};
-use differ::building::{all_marks, Builder};
+use differ::building::all_marks;
+use differ::convert::to_valuation;
 use differ::corpus::{unreduced, windowed};
-use differ::expected_builders::runs;
 use differ::lists::{cell, interval, large_list, parity, random_cells, some_clauses};
 use differ::program::{compare, Printed, Program, IS_EMULATED};
 use differ::random::Random;
@@ -118,25 +119,35 @@ fn chain(random: &mut Random, corner: Valuation) -> Vec<Valuation> {
     [corner].into_iter().chain(boxes).collect()
 }
 
+/// The table with more clauses, and the size of the largest on the way.
+fn grown(table: &Bdd, clauses: &[Valuation]) -> (Bdd, usize) {
+    let set = BddVariableSet::new_anonymous(table.num_vars());
+    clauses.iter().fold((table.clone(), 0), |(table, largest), clause| {
+        let longer = table.or(&set.mk_conjunctive_clause(&to_valuation(*clause)));
+        let size = longer.size();
+        (longer, largest.max(size))
+    })
+}
+
 /// A DNF whose table has exactly so many nodes, and no opening run has more: chains, then cells that differ from a corner in two marks
 /// alone, which as a rule add as many nodes as there are marks from the one to the other.
 fn of_size(random: &mut Random, nodes: usize) -> Vec<Valuation> {
     let n = 60;
-    let (mut list, mut corners, mut size) = (vec![], vec![], 1);
-    while size < nodes {
-        let (mut longer, left): (Vec<Valuation>, usize) = (list.clone(), nodes - size);
-        if left > 70 {
+    let (mut list, mut corners, mut table) = (vec![], vec![], Bdd::mk_false(n));
+    while table.size() < nodes {
+        let left = nodes - table.size();
+        let more = if left > 70 {
             corners.push(random.word());
-            longer.extend(chain(random, cell(n, corners[corners.len() - 1])));
+            chain(random, cell(n, corners[corners.len() - 1]))
         } else {
             let apart = left.min(1 + random.below(50));
             let first = random.below(60 - apart);
-            longer.push(cell(n, random.pick(&corners) ^ (1 << first | 1 << (first + apart))));
-        }
-        let runs = runs(Builder::Dnf, n, &longer);
-        let longer_size = runs.sizes[runs.sizes.len() - 1];
-        if runs.need() <= nodes && longer_size > size {
-            (list, size) = (longer, longer_size);
+            vec![cell(n, random.pick(&corners) ^ (1 << first | 1 << (first + apart)))]
+        };
+        let (longer, largest) = grown(&table, &more);
+        if largest <= nodes && longer.size() > table.size() {
+            list.extend(more);
+            table = longer;
         }
     }
     list
