@@ -17,12 +17,13 @@ use table::BddPointer;
 use valuation::BddVariable;
 
 // How a table is carried: over n marks into room nodes, with the variable set to the value (n for none), yes and no exchanged or not.
+// Copied in each call: so ordered, what a call reads at once lies where a store's start or middle lay.
 pub struct Way {
+    pub exchange: bool,
     pub n: u16,
     pub room: u32,
     pub variable: BddVariable,
     pub value: bool,
-    pub exchange: bool,
 }
 
 // Where a node is split.

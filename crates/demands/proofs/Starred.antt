@@ -22,7 +22,7 @@ use Rattle.listing.specs.Listed.{clauseWords, listAnswer, lists}
 use Rattle.lists.specs.Lists.{listsDnf, listsCnf}
 use Rattle.rule.specs.Rule.{moreCases, larger, mostCases, coreOf, hasCore, remainder, dropped, dropMarks, restOf, fewerNodes, smaller, fewestNodes, chosen, markOf, solved, inside, cleared, trimmedBy, trimmed, shortList, triedExists, restrictions, forAlls, restCalls, stepCalls, called, allFit, shortFits}
 use Rattle.short.specs.Short.{deepWork, shortDeep, listsShort}
-use Rattle.walk.specs.Reduced.{leads, reachable, repeated, nodeReduced, firstUnreduced, admitsWalk}
+use Rattle.reduced.specs.Reduced.{leads, reachable, repeated, nodeReduced, firstUnreduced, admitsWalk}
 use Rattle.builders.specs.Builders.{overList, shortList as endsEarly, badEntry, firstBadEntry, shortestOver, makesDnf, makesCnf}
 
 -- what an entry answers, and what the specification says

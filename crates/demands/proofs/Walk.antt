@@ -22,9 +22,9 @@ use Rattle.posting.proofs.Chosen as chosen
 use Rattle.walk.specs.declared.BddPathIterator.{BddPathIterator}
 use Rattle.walk.specs.declared.PathStart.{PathStart}
 use Rattle.walk.specs.declared.PathStep.{PathStep}
-use Rattle.walk.specs.Reduced.{nodeReduced, firstUnreduced, admitsWalk}
+use Rattle.reduced.specs.Reduced.{nodeReduced, firstUnreduced, admitsWalk}
 use Rattle.walk.specs.Walk.{pathStepReply, ended, yields, kthStep, tells, walkClauses, startOf, wordsOf, stepOf, pathIn, moved, refusalIn}
-use Rattle.walk.proofs.CheckLaws as check
+use Rattle.reduced.proofs.CheckLaws as check
 use Rattle.walk.proofs.KthLaws as of
 use Rattle.walk.proofs.WalkSingle as one
 

@@ -16,10 +16,10 @@ use Rattle.table.specs.Inspection.{rootOf, SoundTable}
 use Rattle.paths.specs.Paths.{pathList}
 use Rattle.walk.specs.declared.PathState.{PathState}
 use Rattle.walk.specs.declared.PathStart.{PathStart}
-use Rattle.walk.specs.Reduced.{admitsWalk}
+use Rattle.reduced.specs.Reduced.{admitsWalk}
 use Rattle.walk.specs.Path.{kept, turned, pathNext, firstPath, inArray, stateOf, held, Held}
 use Rattle.walk.specs.Walk.{ended, yields, stepOf, nextPath, startBy, startOf, heldWords, wordsOf, pathOf, pathAfter, kthStep, tells, clausesBy, walkClauses}
-use Rattle.walk.proofs.CheckLaws.{Stopped, Admitted, walk-either, reduced-admits, refused-number}
+use Rattle.reduced.proofs.CheckLaws.{Stopped, Admitted, walk-either, reduced-admits, refused-number}
 use Rattle.walk.proofs.PathLaws.{held-is}
 use Rattle.walk.proofs.Ways.{walk-holds, walk-tells}
 

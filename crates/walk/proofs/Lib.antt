@@ -1,6 +1,3 @@
-pub mod ReachLaws
-pub mod ReducedLaws
-pub mod CheckLaws
 pub mod PathLaws
 pub mod StartLaws
 pub mod LentOut
@@ -9,4 +6,3 @@ pub mod Ways
 pub mod KthLaws
 pub mod Sounds
 pub mod WalkSingle
-pub mod Examples

@@ -22,7 +22,7 @@ use Rattle.valuation.specs.Valuation.{clauseOf}
 use Rattle.walk.specs.declared.PathState.{PathState}
 use Rattle.walk.specs.Path.{Path, pointer, on, onward, firstFrom, canTurn, kept, turned, pathNext, cellsFrom, clauseAlong, places, inArray, stateOf, held, Along, Held, Descends, Descending}
 use Rattle.walk.specs.Walk.{nextPath}
-use Rattle.walk.proofs.ReachLaws.{constant-mark}
+use Rattle.reduced.proofs.ReachLaws.{constant-mark}
 
 -- a path in its array
 pub array-long : (x : Path) → length x ≤ places → length (inArray x) ≡ places

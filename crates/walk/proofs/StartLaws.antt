@@ -23,10 +23,10 @@ use Rattle.table.specs.Inspection.{inspectionReply, refusalIn, rootOf, SoundTab
 use Rattle.walk.specs.declared.PathState.{PathState}
 use Rattle.walk.specs.declared.PathStart.{PathStart}
 use Rattle.walk.specs.declared.PathStep.the-variants as step
-use Rattle.walk.specs.Reduced.{admitsWalk}
+use Rattle.reduced.specs.Reduced.{admitsWalk}
 use Rattle.walk.specs.Path.{Path, pointer, firstFrom, firstPath, clauseAlong, places, inArray, stateOf, held, Descending}
 use Rattle.walk.specs.Walk.{pathStepReply, stepOf, ended, yields, startBy, startOf}
-use Rattle.walk.proofs.CheckLaws.{Stopped, Admitted, walk-either}
+use Rattle.reduced.proofs.CheckLaws.{Stopped, Admitted, walk-either}
 
 -- no path yet
 abbrev none : PathState

@@ -1,3 +1,2 @@
-pub mod Reduced
 pub mod Path
 pub mod Walk

@@ -11,7 +11,7 @@ use Rattle.theory.specs.Clause.{Clause}
 use Rattle.refusal.specs.Verdict.{Reply, gives, Verdict, refused, answered}
 use Rattle.refusal.specs.declared.Refusal.{Refusal}
 use Rattle.paths.specs.Paths.{pathList}
-use Rattle.walk.specs.Reduced.{admitsWalk}
+use Rattle.reduced.specs.Reduced.{admitsWalk}
 use Rattle.walk.specs.Path.{Path, pathNext, firstPath, clauseAlong, inArray, stateOf, held}
 use Rattle.walk.specs.declared.PathState.{PathState}
 use Rattle.walk.specs.declared.PathStart.{PathStart}

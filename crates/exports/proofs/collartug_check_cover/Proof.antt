@@ -1,4 +1,4 @@
-use Rattle.exports.proofs.ReplyLaws.{worked-none, worked-all}
+use Rattle.replies.proofs.ReplyLaws.{worked-none, worked-all}
 use borrow.Author.Needs.{needs}
 use Rattle.exports.proofs.collartug_check_cover.Statement.{statement}
 use Rattle.exports.proofs.collartug_check_cover.Tie as tie

@@ -1,7 +1,8 @@
 use mathlib.Core.Path.{ap}
 use Rattle.refusal.specs.Verdict.{gives, replied}
-use Rattle.exports.specs.Exports.{partValues, posts}
-use Rattle.exports.proofs.ReplyLaws.{exported}
+use Rattle.replies.specs.Replies.{partValues}
+use Rattle.exports.specs.Exports.{posts}
+use Rattle.replies.proofs.ReplyLaws.{exported}
 use borrow.Author.Needs.{needs}
 use Rattle.exports.proofs.collartug_choose_posting.Statement.{statement}
 use Rattle.exports.proofs.collartug_choose_posting.Tie as tie

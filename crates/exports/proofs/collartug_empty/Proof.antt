@@ -3,7 +3,7 @@ use Rattle.valuation.specs.Valuation.{saysClause}
 use mathlib.Core.Path.{ap₂}
 use mathlib.Core.List.{[], _∷_}
 use Rattle.refusal.specs.Verdict.{gives, replied}
-use Rattle.exports.proofs.ReplyLaws.{exported}
+use Rattle.replies.proofs.ReplyLaws.{exported}
 use borrow.Author.Needs.{needs}
 use Rattle.exports.proofs.collartug_empty.Statement.{statement}
 use Rattle.exports.proofs.collartug_empty.Tie as tie

@@ -1,4 +1,4 @@
-use Rattle.exports.proofs.ReplyLaws.{pair-none, pair-all}
+use Rattle.replies.proofs.ReplyLaws.{pair-none, pair-all}
 use borrow.Author.Needs.{needs}
 use Rattle.exports.proofs.collartug_read_sheet.Statement.{statement}
 use Rattle.exports.proofs.collartug_read_sheet.Tie as tie

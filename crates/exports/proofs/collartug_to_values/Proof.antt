@@ -1,7 +1,7 @@
 use borrow.Author.Tests.{lt-ltb, le-ltb}
 use Rattle.theory.specs.Clause.{clause}
-use Rattle.exports.proofs.ReplyLaws.{left-alone, filled}
-use Rattle.exports.proofs.ListLaws.{sixty-words}
+use Rattle.replies.proofs.ReplyLaws.{left-alone, filled}
+use Rattle.replies.proofs.ListLaws.{sixty-words}
 use borrow.Author.Needs.{needs}
 use Rattle.exports.proofs.collartug_to_values.Statement.{statement}
 use Rattle.exports.proofs.collartug_to_values.Tie as tie

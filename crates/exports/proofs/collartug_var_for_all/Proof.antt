@@ -1,4 +1,4 @@
-use Rattle.exports.proofs.ReplyLaws.{exported-none, exported-all, worked-all}
+use Rattle.replies.proofs.ReplyLaws.{exported-none, exported-all, worked-all}
 use borrow.Author.Needs.{needs}
 use Rattle.exports.proofs.collartug_var_for_all.Statement.{statement}
 use Rattle.exports.proofs.collartug_var_for_all.Tie as tie

@@ -6,7 +6,7 @@ use Rattle.walk.proofs.start_of.Reads as reads
 use Rattle.walk.proofs.start_of.Lts as lts
 use Rattle.table.proofs.refusal_of.Reads as refusal-of-reads
 use Rattle.walk.proofs.first_path.Reads as first-path-reads
-use Rattle.walk.proofs.walk_check.Reads as walk-check-reads
+use Rattle.reduced.proofs.walk_check.Reads as walk-check-reads
 
 walk-check-requires : tie.Need-walk-check-requires
 walk-check-requires c κs = search needs

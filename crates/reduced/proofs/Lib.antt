@@ -1,0 +1,4 @@
+pub mod ReachLaws
+pub mod ReducedLaws
+pub mod CheckLaws
+pub mod Examples
