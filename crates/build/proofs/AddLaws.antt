@@ -19,6 +19,7 @@ use Rattle.theory.proofs.Again.{room-canon}
 use Rattle.cube.specs.Cube.{setCube}
 use Rattle.cube.proofs.Cubes.{set-deep}
 use Rattle.cube.proofs.Sizes.{pool-bound, new-bound}
+use Rattle.chain.specs.Chain.{Chained, Indexed}
 use Rattle.put.specs.declared.Job.{Job}
 use Rattle.put.specs.Put.{memoBase, tree, Ready, Put}
 use Rattle.build.specs.declared.Goal.{Goal}
@@ -46,7 +47,7 @@ module _ (w out : List ℕ) (g : Goal) (k a : ℕ) (r : Compacting w out g k a) 
     stamp = r .stamp;
     few = r .few;
     small = omega (arith, r .few, r .cap);
-    long = r .long;
+    long = omega (arith, r .long);
     wide = omega (arith, r .wide);
     fits = r .fits;
     holds = r .some;
@@ -72,10 +73,14 @@ module _ (w out : List ℕ) (g : Goal) (k a : ℕ) (r : Compacting w out g k a) 
     pub fresh-is : fresh (g .n) s a ≡ (nodes m out₁, o)
     fresh-is = sym carried-is ∙ c .holds .is
 
-    pub compact-done : (w₂ : List ℕ) → Copied w₁ w₂ out₁ (3 * m) → Compacted w w₂ g k a o m
-    compact-done w₂ p = record {
-      holds = record { is = fresh-is ∙ ap (λ (z : Table). (z, o)) (nodes-agree m out₁ w₂ (λ i h. sym (p .front i h))); fits = c .holds .fits };
-      young = λ x h. subst (λ z. z / memoBase ≤ g .stamp) (sym (p .back (3 * g .cap + x) (omega (arith, c .holds .fits, r .cap)))) (c .young x h);
+    pub compact-done : (w₂ w₃ : List ℕ) → Copied w₁ w₂ out₁ (3 * m) → Indexed w₂ w₃ (g .cap) m → Compacted w w₃ g k a o m
+    compact-done w₂ w₃ p x = record {
+      holds = record {
+        is = fresh-is ∙ ap (λ (z : Table). (z, o)) (nodes-agree m out₁ w₃ (λ i h. sym (x .front i (omega (arith, c .holds .fits, r .cap)) ∙ p .front i h)));
+        fits = c .holds .fits;
+      };
+      young = λ y h. subst (λ z. z / memoBase ≤ g .stamp) (sym (x .front (3 * g .cap + y) (omega arith) ∙ p .back (3 * g .cap + y) (omega (arith, c .holds .fits, r .cap)))) (c .young y h);
+      chained = x .chained;
     }
 
     fresh-sound : Walked (g .n) (constants (g .n)) (g .n) 0 (treeOf (g .n) s 0 a) (nodes m out₁, o)
@@ -132,6 +137,7 @@ module _ (w out : List ℕ) (j : Job) (room limit k a : ℕ) (r : Adding w out j
     stands = r .pool .stands;
     known = λ x h st. absurd (let z : ⊥ = omega (arith, r .pool .older x h) in z);
     young = λ x h. omega (arith, r .pool .older x h);
+    chained = r .pool .chained;
   }
 
   tree-is : tree j s₀ 0 a false ≡ T
@@ -159,7 +165,7 @@ module _ (w out : List ℕ) (j : Job) (room limit k a : ℕ) (r : Adding w out j
     pub add-small : c ≤ limit → Added w w₁ j room k a o c limit
     add-small h = record {
       within = r .within;
-      pool = record { good = sound₁ .good; stands = sound₁ .stands; means = sound₁ .means; fits = omega (arith, r .within); older = λ x i. omega (arith, u .young x i) };
+      pool = record { good = sound₁ .good; stands = sound₁ .stands; means = sound₁ .means; fits = omega (arith, r .within); older = λ x i. omega (arith, u .young x i); chained = u .chained };
       small = under (j .n) T T-deep room (r .some) (omega (arith, ap (λ (z : Table × ℕ). length (z .0)) own, pool-bound (j .n) s₁ (sound₁ .good) o (sound₁ .stands), length-nodes c w₁, r .within));
     }
 
@@ -198,6 +204,7 @@ module _ (w out : List ℕ) (j : Job) (room limit k a : ℕ) (r : Adding w out j
               means = b .means;
               fits = omega (arith, h .holds .fits);
               older = subst (λ (x : ℕ). Older w₂ x (j .stamp + 2)) gc (λ x i. omega (arith, h .young x i));
+              chained = subst (λ (x : ℕ). Chained w₂ x m) gc (h .chained);
             };
             small = under (j .n) T T-deep room (r .some) (omega (arith, ap (λ (z : Table × ℕ). length (z .0)) is, length-nodes m w₂, h .holds .fits));
           }

@@ -16,6 +16,7 @@ use Rattle.making.specs.declared.Tabled.the-variants as tabled
 use Rattle.pool.specs.declared.Noted.{Noted}
 use Rattle.pool.specs.declared.Noted.the-variants.{Node as Got, Full}
 use Rattle.pool.specs.Pool.{Holds}
+use Rattle.chain.specs.Chain.{Chained}
 use Rattle.put.specs.Put.{memoBase, stampLimit, word, Young}
 use Rattle.build.specs.declared.Goal.{Goal}
 use Rattle.build.specs.declared.Grown.{Grown}
@@ -69,10 +70,7 @@ abbrev pub Carries : List ℕ → List ℕ → List ℕ → List ℕ → Goal �
 Carries w w′ out out′ g k m a (Got r m′) = Carried w w′ out out′ g k m a (r .0) m′
 Carries w w′ out out′ g k m a Full = g .room < length ((carried (g .n) (nodes k w) (nodes m out) a) .0)
 
--- ---- plain loops
-abbrev pub Zeros : List ℕ → ℕ → ℕ → Type 0
-Zeros w s e = (i : ℕ) → s ≤ i → i < e → getD w i 0 ≡ 0
-
+-- ---- a plain loop
 pub record Copied (w w′ t : List ℕ) (e : ℕ) : Type 0 where
   pub front : (i : ℕ) → i < e → getD w′ i 0 ≡ getD t i 0
   pub back : (i : ℕ) → e ≤ i → getD w′ i 0 ≡ getD w i 0
@@ -88,7 +86,7 @@ pub record Compacting (w out : List ℕ) (g : Goal) (k a : ℕ) : Type 0 where
   pub few : g .cap ≤ memoBase
   pub cap : g .cap ≡ 2 * g .room
   pub some : 2 ≤ g .room
-  pub long : 4 * g .cap ≤ length w
+  pub long : 6 * g .cap ≤ length w
   pub wide : 3 * g .room ≤ length out
   pub fits : k ≤ g .cap
   pub good : Good (g .n) (nodes k w)
@@ -102,6 +100,7 @@ fresh n s a = walk ((constants n)) 0 (treeOf n s 0 a)
 pub record Compacted (w w′ : List ℕ) (g : Goal) (k a r m : ℕ) : Type 0 where
   pub holds : Holds (fresh (g .n) (nodes k w) a) (g .room) w′ r m
   pub young : Young w′ (g .cap) (g .stamp)
+  pub chained : Chained w′ (g .cap) m
 
 abbrev pub Compacts : List ℕ → List ℕ → Goal → ℕ → ℕ → Noted → Type 0
 Compacts w w′ g k a (Got r m) = Compacted w w′ g k a (r .0) m
@@ -115,6 +114,7 @@ pub record Pool (w : List ℕ) (n cap room count root stamp : ℕ) (t : Tree) : 
   pub means : treeOf n (nodes count w) 0 root ≡ t
   pub fits : count ≤ room
   pub older : Older w cap stamp
+  pub chained : Chained w cap count
 
 pub record Adding (w out : List ℕ) (j : Job) (room limit k a : ℕ) : Type 0 where
   pub within : limit ≤ room
@@ -125,7 +125,7 @@ pub record Adding (w out : List ℕ) (j : Job) (room limit k a : ℕ) : Type 0 w
   pub cap : j .cap ≡ 2 * room
   pub some : 2 ≤ room
   pub few : room ≤ 4096
-  pub long : 8 * room ≤ length w
+  pub long : 12 * room ≤ length w
   pub wide : 3 * room ≤ length out
   pub pool : Pool w (j .n) (j .cap) room k a (j .stamp) (treeOf (j .n) (nodes k w) 0 a)
 
@@ -173,7 +173,7 @@ pub record Building (n : ℕ) (entry : ℕ → Clause) (k term room : ℕ) (out 
   pub few : room ≤ 4096
   pub count : k ≤ 65536
   pub masks : (i : ℕ) → i < k → (entry i) .fixed < 2 ^ n
-  pub long : 8 * room ≤ length w
+  pub long : 12 * room ≤ length w
   pub wide : 3 * room ≤ length out
 
 -- every opening run's table has its place

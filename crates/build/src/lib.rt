@@ -1,11 +1,11 @@
 // A list of clauses built in one pool: set one after another in list order, the pool brought to its root's own table when it has grown. Inner.
-// In work: the pool of 2 * room nodes from 0 on, the memo from 6 * room on.
+// In work: the pool of 2 * room nodes from 0 on, the memo from 6 * room on, the pool's chains from 8 * room on.
 ghost use mathlib.Core.Path.{_≡_};
 ghost use Prim.Native.Nat.{_+_, _*_, _≤_};
 ghost use lib.ListN.{length};
 ghost use Rattle.refusal.specs.Limits.{maxMarks, maxNodes};
 ghost use Rattle.cube.specs.Cube.{entryAt};
-ghost use Rattle.build.specs.Build.{Carrying, Carries, Zeros, Copied, Compacting, Compacts, Adding, Adds, Exporting, Exported, Within, Given, Building, Builds};
+ghost use Rattle.build.specs.Build.{Carrying, Carries, Copied, Compacting, Compacts, Adding, Adds, Exporting, Exported, Within, Given, Building, Builds};
 use making::Tabled;
 use pool::Found;
 use pool::Noted;
@@ -59,18 +59,6 @@ pub fn carry(
     Noted::Node(r, more)
 }
 
-// Zeros from start up to, not including, end.
-pub fn clear(work: &mut [u32], start: usize, end: usize)
-    requires { ⌜ (start ≤ end) × (end ≤ length (now work)) ⌝ }
-    ensures { λ _. ⌜ Zeros (now (work .exit)) start end ⌝ }
-{
-    let mut i = start;
-    while i < end {
-        work[i] = 0;
-        i += 1;
-    }
-}
-
 // The first nodes of a table to the front of work.
 pub fn copy_nodes(work: &mut [u32], bdd: &[u32], count: u32)
     requires { ⌜ (3 * count ≤ length (now work)) × (3 * count ≤ length (now bdd)) ⌝ }
@@ -95,6 +83,7 @@ pub fn compact(work: &mut [u32], out: &mut [u32], goal: Goal, count: u32, p: Bdd
         return Noted::Full;
     };
     copy_nodes(work, &*out, made);
+    chain::index_nodes(work, goal.cap, made);
     Noted::Node(r, made)
 }
 
@@ -196,7 +185,7 @@ pub fn build(
     ensures { λ r. ⌜ Builds n (entryAt cases n (now (list .entry))) count term room (now (out .exit)) r ⌝ }
 {
     let cap = 2 * room;
-    clear(work, 3 * (cap as usize), 4 * (cap as usize));
+    chain::clear(work, 3 * (cap as usize), 5 * (cap as usize));
     making::put_constants(work, n);
     let mut root = BddPointer(1 - term);
     let mut held: u32 = 2;

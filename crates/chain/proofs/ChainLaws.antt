@@ -220,18 +220,18 @@ pub cleared-to : (w w′ : List ℕ) (s i e : ℕ) → e ≤ i → Cleared w w�
 cleared-to w w′ s i e le c = record { zero = λ j a b. c .zero j a (omega arith); front = c .front }
 
 -- ---- the chains made anew
-pub index-none : (w w₁ : List ℕ) (cap : ℕ) → Cleared w w₁ (4 * cap) (5 * cap) → Indexed w₁ w₁ cap 2
-index-none w w₁ cap z = record {
-  chained = record {
-    head = λ h a. subst (Last w₁ cap h 2) (sym (z .zero (4 * cap + h) (omega arith) (omega arith))) (record {
-      below = λ b. absurd (let y : ⊥ = omega arith in y);
-      slot = λ b. absurd (let y : ⊥ = omega arith in y);
-      none = λ j b d e. absurd (let y : ⊥ = omega arith in y);
-    });
-    next = λ i a b. absurd (let y : ⊥ = omega arith in y);
-  };
-  front = λ i a. refl;
+pub chained-none : (w : List ℕ) (cap : ℕ) → ((h : ℕ) → h < cap → headAt w cap h ≡ 0) → Chained w cap 2
+chained-none w cap zero = record {
+  head = λ h a. subst (Last w cap h 2) (sym (zero h a)) (record {
+    below = λ b. absurd (let y : ⊥ = omega arith in y);
+    slot = λ b. absurd (let y : ⊥ = omega arith in y);
+    none = λ j b d e. absurd (let y : ⊥ = omega arith in y);
+  });
+  next = λ i a b. absurd (let y : ⊥ = omega arith in y);
 }
+
+pub index-none : (w w₁ : List ℕ) (cap : ℕ) → Cleared w w₁ (4 * cap) (5 * cap) → Indexed w₁ w₁ cap 2
+index-none w w₁ cap z = record { chained = chained-none w₁ cap (λ h a. z .zero (4 * cap + h) (omega arith) (omega arith)); front = λ i a. refl }
 
 pub index-more : (w w₁ w₂ : List ℕ) (cap i : ℕ) → 2 ≤ i → i < cap → 6 * cap ≤ length w₁ → Indexed w w₁ cap i → w₂ ≡ hung w₁ cap i (slotAt w₁ cap i) → Indexed w w₂ cap (i + 1)
 index-more w w₁ w₂ cap i two lt long x e = record {
