@@ -113,7 +113,7 @@ module _ (w out : List ℕ) (g : Goal) (k a : ℕ) (r : Compacting w out g k a) 
   export-full h f = omega (arith, compact-full f, pool-bound (g .n) s (r .good) a (r .stands), length-nodes k w)
 
 -- ---- one clause more
-module _ (w out : List ℕ) (j : Job) (room limit k a : ℕ) (r : Adding w out j room limit k a) where
+module _ (w out : List ℕ) (j : Job) (room k a : ℕ) (r : Adding w out j room k a) where
   abbrev s₀ : Table
   s₀ = nodes k w
 
@@ -162,11 +162,10 @@ module _ (w out : List ℕ) (j : Job) (room limit k a : ℕ) (r : Adding w out j
     own : fresh (j .n) s₁ o ≡ walk (constants (j .n)) 0 T
     own = ap (walk (constants (j .n)) 0) (sound₁ .means)
 
-    pub add-small : c ≤ limit → Added w w₁ j room k a o c limit
+    pub add-small : c ≤ room → Added w w₁ j room k a o c
     add-small h = record {
-      within = r .within;
-      pool = record { good = sound₁ .good; stands = sound₁ .stands; means = sound₁ .means; fits = omega (arith, r .within); older = λ x i. omega (arith, u .young x i); chained = u .chained };
-      small = under (j .n) T T-deep room (r .some) (omega (arith, ap (λ (z : Table × ℕ). length (z .0)) own, pool-bound (j .n) s₁ (sound₁ .good) o (sound₁ .stands), length-nodes c w₁, r .within));
+      pool = record { good = sound₁ .good; stands = sound₁ .stands; means = sound₁ .means; fits = h; older = λ x i. omega (arith, u .young x i); chained = u .chained };
+      small = under (j .n) T T-deep room (r .some) (omega (arith, ap (λ (z : Table × ℕ). length (z .0)) own, pool-bound (j .n) s₁ (sound₁ .good) o (sound₁ .stands), length-nodes c w₁));
     }
 
     module _ (g : Goal) (gn : g .n ≡ j .n) (gs : g .stamp ≡ j .stamp + 1) (gc : g .cap ≡ j .cap) (gr : g .room ≡ room) where
@@ -188,16 +187,12 @@ module _ (w out : List ℕ) (j : Job) (room limit k a : ℕ) (r : Adding w out j
       fresh-own : fresh (g .n) s₁ o ≡ walk (constants (j .n)) 0 T
       fresh-own = ap (λ (x : ℕ). fresh x s₁ o) gn ∙ own
 
-      pub add-fits : (w₂ : List ℕ) (q m : ℕ) → Compacted w₁ w₂ g c o q m → m ≤ 4096
-      add-fits w₂ q m h = omega (arith, h .holds .fits, r .few)
-
-      pub add-done : (w₂ : List ℕ) (q m next : ℕ) → next ≤ room → Compacted w₁ w₂ g c o q m → Added w w₂ j room k a q m next
-      add-done w₂ q m next le h =
+      pub add-done : (w₂ : List ℕ) (q m : ℕ) → Compacted w₁ w₂ g c o q m → Added w w₂ j room k a q m
+      add-done w₂ q m h =
           let is : walk (constants (j .n)) 0 T ≡ (nodes m w₂, q) = sym fresh-own ∙ h .holds .is in
           let b : Walked (j .n) (constants (j .n)) (j .n) 0 T (nodes m w₂, q) =
           subst (λ z. Walked (j .n) (constants (j .n)) (j .n) 0 T z) is (sound (j .n) (j .n) T T-deep 0 (omega arith) (constants (j .n)) (constants-good (j .n))) in
           record {
-            within = le;
             pool = record {
               good = b .good;
               stands = b .stands;

@@ -116,8 +116,7 @@ pub record Pool (w : List ℕ) (n cap room count root stamp : ℕ) (t : Tree) : 
   pub older : Older w cap stamp
   pub chained : Chained w cap count
 
-pub record Adding (w out : List ℕ) (j : Job) (room limit k a : ℕ) : Type 0 where
-  pub within : limit ≤ room
+pub record Adding (w out : List ℕ) (j : Job) (room k a : ℕ) : Type 0 where
   pub marks : j .n ≤ 60
   pub fixed : j .fixed < 2 ^ j .n
   pub term : j .term < 2
@@ -133,13 +132,12 @@ pub record Adding (w out : List ℕ) (j : Job) (room limit k a : ℕ) : Type 0 w
 abbrev pub target : Job → Table → ℕ → Tree
 target j s a = setCube (truth (j .term)) (j .fixed) (j .values) (treeOf (j .n) s 0 a)
 
-pub record Added (w w′ : List ℕ) (j : Job) (room k a r c limit : ℕ) : Type 0 where
-  pub within : limit ≤ room
+pub record Added (w w′ : List ℕ) (j : Job) (room k a r c : ℕ) : Type 0 where
   pub pool : Pool w′ (j .n) (j .cap) room c r (j .stamp + 2) (target j (nodes k w) a)
   pub small : length (canon (j .n) (target j (nodes k w) a)) ≤ room
 
 abbrev pub Adds : List ℕ → List ℕ → Job → ℕ → ℕ → ℕ → Grown → Type 0
-Adds w w′ j room k a (At r c limit) = Added w w′ j room k a (r .0) c limit
+Adds w w′ j room k a (At r c) = Added w w′ j room k a (r .0) c
 Adds w w′ j room k a Over = room < length (canon (j .n) (target j (nodes k w) a))
 
 -- ---- the table at last

@@ -3,7 +3,7 @@
 ghost use mathlib.Core.Path.{_≡_};
 ghost use Prim.Native.Nat.{_+_, _*_, _≤_};
 ghost use lib.ListN.{length};
-ghost use Rattle.refusal.specs.Limits.{maxMarks, maxNodes};
+ghost use Rattle.refusal.specs.Limits.{maxMarks};
 ghost use Rattle.cube.specs.Cube.{entryAt};
 ghost use Rattle.build.specs.Build.{Carrying, Carries, Copied, Compacting, Compacts, Adding, Adds, Exporting, Exported, Within, Given, Building, Builds};
 use making::Tabled;
@@ -87,40 +87,31 @@ pub fn compact(work: &mut [u32], out: &mut [u32], goal: Goal, count: u32, p: Bdd
     Noted::Node(r, made)
 }
 
-// Where the pool is next brought to its root's table: a linear search wants little that is dead.
-pub fn limit_after(count: u32, room: u32) -> u32
-    requires { ⌜ count ≤ maxNodes ⌝ }
-    ensures { λ r. ⌜ r ≤ room ⌝ }
-{
-    let twice = 2 * count + 64;
-    if twice < room { twice } else { room }
-}
-
-// The run's node, the pool's count and its next limit; or the run's own table has no room.
+// The run's node and the pool's count; or the run's own table has no room.
 pub enum Grown {
-    At(BddPointer, u32, u32),
+    At(BddPointer, u32),
     Over,
 }
 
 // One clause more: the run's node in the pool, which holds at most room nodes again; Over exactly if the run's own table has more.
+// Only a pool over room is brought to its root's table: along chains, nodes that are dead cost less than bringing it there earlier.
 pub fn add_clause(
     work: &mut [u32],
     out: &mut [u32],
     job: Job,
     room: u32,
-    limit: u32,
     count: u32,
     p: BddPointer,
 ) -> Grown
-    requires { ⌜ Adding (now work) (now out) job room limit count (p .0) ⌝ }
+    requires { ⌜ Adding (now work) (now out) job room count (p .0) ⌝ }
     ensures { λ r. ⌜ Adds (now (work .entry)) (now (work .exit)) job room count (p .0) r ⌝ }
 {
     let noted = put::put(work, job, 0, count, p, false);
     let Noted::Node(r, more) = noted else {
         return Grown::Over;
     };
-    if more <= limit {
-        return Grown::At(r, more, limit);
+    if more <= room {
+        return Grown::At(r, more);
     }
     let goal = Goal {
         n: job.n,
@@ -132,8 +123,7 @@ pub fn add_clause(
     let Noted::Node(root, nodes) = own else {
         return Grown::Over;
     };
-    let next = limit_after(nodes, room);
-    Grown::At(root, nodes, next)
+    Grown::At(root, nodes)
 }
 
 // The table of the pool's node p in out, and its count: false is one node.
@@ -189,7 +179,6 @@ pub fn build(
     making::put_constants(work, n);
     let mut root = BddPointer(1 - term);
     let mut held: u32 = 2;
-    let mut limit = limit_after(32, room);
     let mut i: u32 = 0;
     while i < count {
         let clause = clause_at(n, list, cases, i);
@@ -201,13 +190,12 @@ pub fn build(
             stamp: 2 * i + 1,
             cap,
         };
-        let grown = add_clause(work, out, job, room, limit, held, root);
-        let Grown::At(p, more, next) = grown else {
+        let grown = add_clause(work, out, job, room, held, root);
+        let Grown::At(p, more) = grown else {
             return Tabled::Over((i + 1) as u64);
         };
         root = p;
         held = more;
-        limit = next;
         i += 1;
     }
     let goal = Goal {

@@ -1,30 +1,25 @@
 -- Laws of chains.
 use mathlib.Core.Path.{_≡_, refl, sym, ap, subst, _∙_}
-use mathlib.Core.Bool.{false}
-use mathlib.Core.List.{List, [], _∷_, _++_}
+use mathlib.Core.List.{List, [], _∷_}
 use mathlib.Core.Logic.{_≢_}
-use Prim.Native.Nat.{ℕ, suc, _+_, _*_, _-_, _%_, _<_, _≤_}
+use Prim.Native.Nat.{ℕ, _+_, _*_, _<_, _≤_}
 use native.Mathlib.Omega.{arith}
 use native.Mathlib.Nat.{mod-lt}
 use native.Mathlib.Decide.{ℕ-discrete, decLt}
-use lib.ListN.{length, getD, set, length-set, length-append, List·getD-append}
-use lib.Seq.{getD-set-same, getD-set-other, getD-append-seam}
+use lib.ListN.{length, getD, set, length-set, length-append}
+use lib.Seq.{getD-set-same, getD-set-other}
 use Rattle.theory.specs.Table.{Node, node, Table, at, mk}
 use Rattle.theory.specs.Words.{nodeAt, nodes}
 use Rattle.theory.proofs.Words.{length-nodes, at-nodes, nodes-agree}
 use Rattle.theory.proofs.Find.{node-eq}
 use Rattle.theory.proofs.Walk.{at-old}
 use Rattle.making.specs.Made.{Beyond}
-use Rattle.pool.specs.Pool.{Hit, Miss, Noding, Holds, pushed}
-use Rattle.chain.specs.Chain.{slotOf, slotAt, headAt, nextAt, Last, Chained, hung, Noded, Cleared, Indexed}
+use Rattle.pool.specs.Pool.{Miss, Noding, Holds, pushed}
+use Rattle.chain.specs.Chain.{slotOf, slotAt, headAt, nextAt, Last, Chained, hung, Noded, Zeroed, Indexed}
 
 pub slot-lt : (cap v p q : ℕ) → 0 < cap → slotOf cap v p q < cap
 unfolding slotOf
 slot-lt cap v p q h = mod-lt _ h
-
-pub slot-is : (cap v p q : ℕ) → 0 < cap → ((p * 12582917 + q * 4256249 + v) % cap ≡ slotOf cap v p q) × ((p * 12582917 + q * 4256249 + v) % cap < cap)
-unfolding slotOf
-slot-is cap v p q h = (refl, mod-lt _ h)
 
 -- equal nodes share a slot
 slot-same : (w : List ℕ) (cap v p q i : ℕ) → nodeAt w i ≡ node v p q → slotAt w cap i ≡ slotOf cap v p q
@@ -204,11 +199,11 @@ module _ (w : List ℕ) (n cap k v p q : ℕ) (r : Noding w n cap k v p q) (long
         }
 
 -- ---- zeros
-pub cleared-none : (w : List ℕ) (s : ℕ) → Cleared w w s s
-cleared-none w s = record { zero = λ i a b. absurd (let z : ⊥ = omega arith in z); front = λ i h. refl }
+pub zeroed-none : (w : List ℕ) (s : ℕ) → Zeroed w w s s
+zeroed-none w s = record { zero = λ i a b. absurd (let z : ⊥ = omega arith in z); front = λ i h. refl }
 
-pub cleared-more : (w w′ : List ℕ) (s i : ℕ) → s ≤ i → i < length w′ → Cleared w w′ s i → Cleared w (set w′ i 0) s (i + 1)
-cleared-more w w′ s i le h c = record {
+pub zeroed-more : (w w′ : List ℕ) (s i : ℕ) → s ≤ i → i < length w′ → Zeroed w w′ s i → Zeroed w (set w′ i 0) s (i + 1)
+zeroed-more w w′ s i le h c = record {
   zero = λ j a b. elim (ℕ-discrete j i) [
     | yes e ↦ ap (λ x. getD (set w′ i 0) x 0) e ∙ getD-set-same w′ i 0 0 h
     | no e ↦ getD-set-other w′ i j 0 0 e ∙ c .zero j a (omega arith)
@@ -216,8 +211,8 @@ cleared-more w w′ s i le h c = record {
   front = λ j a. getD-set-other w′ i j 0 0 (λ e. omega arith) ∙ c .front j a;
 }
 
-pub cleared-to : (w w′ : List ℕ) (s i e : ℕ) → e ≤ i → Cleared w w′ s i → Cleared w w′ s e
-cleared-to w w′ s i e le c = record { zero = λ j a b. c .zero j a (omega arith); front = c .front }
+pub zeroed-to : (w w′ : List ℕ) (s i e : ℕ) → e ≤ i → Zeroed w w′ s i → Zeroed w w′ s e
+zeroed-to w w′ s i e le c = record { zero = λ j a b. c .zero j a (omega arith); front = c .front }
 
 -- ---- the chains made anew
 pub chained-none : (w : List ℕ) (cap : ℕ) → ((h : ℕ) → h < cap → headAt w cap h ≡ 0) → Chained w cap 2
@@ -230,7 +225,7 @@ chained-none w cap zero = record {
   next = λ i a b. absurd (let y : ⊥ = omega arith in y);
 }
 
-pub index-none : (w w₁ : List ℕ) (cap : ℕ) → Cleared w w₁ (4 * cap) (5 * cap) → Indexed w₁ w₁ cap 2
+pub index-none : (w w₁ : List ℕ) (cap : ℕ) → Zeroed w w₁ (4 * cap) (5 * cap) → Indexed w₁ w₁ cap 2
 index-none w w₁ cap z = record { chained = chained-none w₁ cap (λ h a. z .zero (4 * cap + h) (omega arith) (omega arith)); front = λ i a. refl }
 
 pub index-more : (w w₁ w₂ : List ℕ) (cap i : ℕ) → 2 ≤ i → i < cap → 6 * cap ≤ length w₁ → Indexed w w₁ cap i → w₂ ≡ hung w₁ cap i (slotAt w₁ cap i) → Indexed w w₂ cap (i + 1)
@@ -239,5 +234,5 @@ index-more w w₁ w₂ cap i two lt long x e = record {
   front = λ j a. ap (λ u. getD u j 0) e ∙ hung-front w₁ w₁ cap i (x .chained) two lt long (λ j a. refl) (λ j a. refl) j a ∙ x .front j a;
 }
 
-pub index-done : (w w₁ w₂ : List ℕ) (cap i k : ℕ) → i ≡ k → Cleared w w₁ (4 * cap) (5 * cap) → Indexed w₁ w₂ cap i → Indexed w w₂ cap k
+pub index-done : (w w₁ w₂ : List ℕ) (cap i k : ℕ) → i ≡ k → Zeroed w w₁ (4 * cap) (5 * cap) → Indexed w₁ w₂ cap i → Indexed w w₂ cap k
 index-done w w₁ w₂ cap i k e z x = record { chained = subst (Chained w₂ cap) e (x .chained); front = λ j a. x .front j a ∙ z .front j a }

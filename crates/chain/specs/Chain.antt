@@ -46,11 +46,11 @@ pub record Noded (w w′ : List ℕ) (cap k v p q r k′ : ℕ) : Type 0 where
   pub memo : (i : ℕ) → 3 * cap ≤ i → i < 4 * cap → getD w′ i 0 ≡ getD w i 0
   pub chained : Chained w′ cap k′
 
-abbrev pub Noting : List ℕ → List ℕ → ℕ → ℕ → ℕ → ℕ → ℕ → Noted → Type 0
-Noting w w′ cap k v p q (Got r k′) = Noded w w′ cap k v p q (r .0) k′
-Noting w w′ cap k v p q Full = cap < length ((mk (nodes k w) v p q) .0)
+abbrev pub Notes : List ℕ → List ℕ → ℕ → ℕ → ℕ → ℕ → ℕ → Noted → Type 0
+Notes w w′ cap k v p q (Got r k′) = Noded w w′ cap k v p q (r .0) k′
+Notes w w′ cap k v p q Full = cap < length ((mk (nodes k w) v p q) .0)
 
-pub record Cleared (w w′ : List ℕ) (s e : ℕ) : Type 0 where
+pub record Zeroed (w w′ : List ℕ) (s e : ℕ) : Type 0 where
   pub zero : (i : ℕ) → s ≤ i → i < e → getD w′ i 0 ≡ 0
   pub front : (i : ℕ) → i < s → getD w′ i 0 ≡ getD w i 0
 

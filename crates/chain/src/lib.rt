@@ -5,7 +5,7 @@ ghost use mathlib.Core.Logic.{_≢_};
 ghost use Prim.Native.Nat.{_*_, _<_, _≤_};
 ghost use lib.ListN.{length};
 ghost use Rattle.pool.specs.Pool.{Searched, Noding};
-ghost use Rattle.chain.specs.Chain.{slotOf, slotAt, hung, Chained, Cleared, Noting, Indexed};
+ghost use Rattle.chain.specs.Chain.{slotOf, slotAt, hung, Chained, Zeroed, Notes, Indexed};
 use pool::Found;
 use pool::Noted;
 use table::BddPointer;
@@ -67,7 +67,7 @@ pub fn make_node(
     high: BddPointer,
 ) -> Noted
     requires { ⌜ Noding (now work) n cap count (variable .0) (low .0) (high .0) × (6 * cap ≤ length (now work)) × Chained (now work) cap count ⌝ }
-    ensures { λ r. ⌜ Noting (now (work .entry)) (now (work .exit)) cap count (variable .0) (low .0) (high .0) r ⌝ }
+    ensures { λ r. ⌜ Notes (now (work .entry)) (now (work .exit)) cap count (variable .0) (low .0) (high .0) r ⌝ }
 {
     if low.0 == high.0 {
         return Noted::Node(low, count);
@@ -87,7 +87,7 @@ pub fn make_node(
 // Zeros from start up to, not including, end.
 pub fn clear(work: &mut [u32], start: usize, end: usize)
     requires { ⌜ (start ≤ end) × (end ≤ length (now work)) ⌝ }
-    ensures { λ _. ⌜ Cleared (now (work .entry)) (now (work .exit)) start end ⌝ }
+    ensures { λ _. ⌜ Zeroed (now (work .entry)) (now (work .exit)) start end ⌝ }
 {
     let mut i = start;
     while i < end {

@@ -32,37 +32,63 @@ shared-slice-read-i : tie.Need-shared-slice-read-i Inv-loop μ-loop
 shared-slice-read-i c = search needs
 
 loop-holds : tie.Need-loop-holds Inv-loop μ-loop
-loop-holds c = seek-head _ _ _ _ _ _ (c .before .before .before .before .pre .4) (c .before .before .before .before .pre .1) _ (c .before .slot .ensures .0)
+loop-holds c =
+    let g = c .before .before .before .before in
+    seek-head _ _ _ _ _ _ (g .pre .4) (g .pre .1) _ (c .before .slot .ensures .0)
 
 same-node-requires : tie.Need-same-node-requires Inv-loop μ-loop
-same-node-requires c κs = omega (arith, c .before .loop .inv .below (omega (arith, c .loop-test .taken)), c .before .before .before .before .before .before .pre .0, c .before .before .before .before .before .before .pre .2)
+same-node-requires c κs =
+    let g = c .before .before .before .before .before .before in
+    let two = c .loop-test .taken in
+    omega (arith, c .before .loop .inv .below two, g .pre .0, g .pre .2)
 
 returns : tie.Need-returns Inv-loop μ-loop
-returns c = record { below = (c .before .before .before .loop .inv .below (omega (arith, c .before .before .loop-test .taken))); same = same-eq _ _ (sym (c .before .same-node .ensures) ∙ c .if1 .taken) }
+returns c =
+    record { below = c .before .before .before .loop .inv .below (c .before .before .loop-test .taken); same = same-eq _ _ (sym (c .before .same-node .ensures) ∙ c .if1 .taken) }
 
 mul-i-3 : tie.Need-mul-i-3 Inv-loop μ-loop
 mul-i-3 c = search needs
 
 cast-i : tie.Need-cast-i Inv-loop μ-loop
-cast-i c = record { fits = omega (arith, c .before .before .before .loop .inv .below (omega (arith, c .before .before .loop-test .taken)), c .before .before .before .before .before .before .before .before .pre .0, c .before .before .before .before .before .before .before .before .pre .2) }
+cast-i c =
+    let g = c .before .before .before .before .before .before .before .before in
+    let two = c .before .before .loop-test .taken in
+    record { fits = omega (arith, c .before .before .before .loop .inv .below two, g .pre .0, g .pre .2) }
 
 add-i-2 : tie.Need-add-i-2 Inv-loop μ-loop
-add-i-2 c = record { fits = omega (arith, c .before .before .before .loop .inv .below (omega (arith, c .before .before .loop-test .taken)), c .before .before .before .before .before .before .before .before .pre .0, c .before .before .before .before .before .before .before .before .pre .2) }
+add-i-2 c =
+    let g = c .before .before .before .before .before .before .before .before in
+    let two = c .before .before .loop-test .taken in
+    record { fits = omega (arith, c .before .before .before .loop .inv .below two, g .pre .0, g .pre .2) }
 
 mul-i-4 : tie.Need-mul-i-4 Inv-loop μ-loop
-mul-i-4 c = record { fits = omega (arith, c .before .before .before .loop .inv .below (omega (arith, c .before .before .loop-test .taken)), c .before .before .before .before .before .before .before .before .pre .0, c .before .before .before .before .before .before .before .before .pre .2) }
+mul-i-4 c =
+    let g = c .before .before .before .before .before .before .before .before in
+    let two = c .before .before .loop-test .taken in
+    record { fits = omega (arith, c .before .before .before .loop .inv .below two, g .pre .0, g .pre .2) }
 
 shared-slice-read-i-2 : tie.Need-shared-slice-read-i-2 Inv-loop μ-loop
-shared-slice-read-i-2 c = omega (arith, c .before .before .before .before .loop .inv .below (omega (arith, c .before .before .before .loop-test .taken)), c .before .before .before .before .before .before .before .before .before .pre .0, c .before .before .before .before .before .before .before .before .before .pre .2)
+shared-slice-read-i-2 c =
+    let g = c .before .before .before .before .before .before .before .before .before in
+    let two = c .before .before .before .loop-test .taken in
+    omega (arith, c .before .before .before .before .loop .inv .below two, g .pre .0, g .pre .2)
 
 loop-less : tie.Need-loop-less Inv-loop μ-loop
-loop-less c = next-lt _ _ _ (c .before .before .before .before .before .before .before .before .before .args .variable .0) (c .before .before .before .before .before .before .before .before .before .args .low .0) (c .before .before .before .before .before .before .before .before .before .args .high .0) (c .before .before .before .before .before .before .before .before .before .pre .4) _ (omega (arith, c .before .before .before .loop-test .taken)) (c .before .before .before .before .loop .inv .below (omega (arith, c .before .before .before .loop-test .taken)))
+loop-less c =
+    let g = c .before .before .before .before .before .before .before .before .before in
+    let two = c .before .before .before .loop-test .taken in
+    next-lt _ _ _ (g .args .variable .0) (g .args .low .0) (g .args .high .0) (g .pre .4) _ two (c .before .before .before .before .loop .inv .below two)
 
 loop-again : tie.Need-loop-again Inv-loop μ-loop
-loop-again c = seek-next _ _ _ _ _ _ (c .before .before .before .before .before .before .before .before .before .pre .4) _ (omega (arith, c .before .before .before .loop-test .taken)) (differs _ _ (sym (c .before .before .same-node .ensures) ∙ c .before .if1 .left)) (c .before .before .before .before .loop .inv)
+loop-again c =
+    let g = c .before .before .before .before .before .before .before .before .before in
+    let two = c .before .before .before .loop-test .taken in
+    seek-next _ _ _ _ _ _ (g .pre .4) _ two (differs _ _ (sym (c .before .before .same-node .ensures) ∙ c .before .if1 .left)) (c .before .before .before .before .loop .inv)
 
 returns-2 : tie.Need-returns-2 Inv-loop μ-loop
-returns-2 c = seek-none _ _ _ _ _ _ _ (c .before .before .before .before .before .before .pre .3) (omega (arith, c .loop-test .left)) (c .before .loop .inv)
+returns-2 c =
+    let g = c .before .before .before .before .before .before in
+    seek-none _ _ _ _ _ _ _ (g .pre .3) (omega (arith, c .loop-test .left)) (c .before .loop .inv)
 
 pub find-node-spec : {M : Type 1} → statement M
 find-node-spec =

@@ -24,10 +24,14 @@ clear-requires : tie.Need-clear-requires Inv-loop μ-loop
 clear-requires c κs = search needs
 
 loop-holds : tie.Need-loop-holds Inv-loop μ-loop
-loop-holds c = (omega arith, c .before .before .before .before .before .pre .1, refl, index-none _ _ _ (c .before .before .clear .ensures))
+loop-holds c =
+    let g = c .before .before .before .before .before in
+    (omega arith, g .pre .1, refl, index-none _ _ _ (c .before .before .clear .ensures))
 
 link-node-requires : tie.Need-link-node-requires Inv-loop μ-loop
-link-node-requires c κs = (omega (arith, c .before .before .before .before .before .before .before .before .pre .0, c .before .before .loop .inv .2, c .before .before .before .before .before .clear .kept .0), omega (arith, c .before .before .before .before .before .before .before .before .pre .2, c .before .loop-test .taken))
+link-node-requires c κs =
+    let g = c .before .before .before .before .before .before .before .before in
+    (omega (arith, g .pre .0, c .before .before .loop .inv .2, c .before .before .before .before .before .clear .kept .0), omega (arith, g .pre .2, c .before .loop-test .taken))
 
 add-i : tie.Need-add-i Inv-loop μ-loop
 add-i c = search needs
@@ -36,7 +40,10 @@ loop-less : tie.Need-loop-less Inv-loop μ-loop
 loop-less c = search needs
 
 loop-again : tie.Need-loop-again Inv-loop μ-loop
-loop-again c = (search needs, search needs, c .before .before .link-node .kept .0 ∙ c .before .before .before .before .before .loop .inv .2, index-more _ _ _ _ _ (c .before .before .before .before .before .loop .inv .0) (omega (arith, c .before .before .before .before .before .before .before .before .before .before .before .pre .2, c .before .before .before .before .loop-test .taken)) (omega (arith, c .before .before .before .before .before .before .before .before .before .before .before .pre .0, c .before .before .before .before .before .loop .inv .2, c .before .before .before .before .before .before .before .before .clear .kept .0)) (c .before .before .before .before .before .loop .inv .3) (c .before .before .link-node .ensures))
+loop-again c =
+    let g = c .before .before .before .before .before .before .before .before .before .before .before in
+    let i = c .before .before .before .before .before .loop .inv in
+    (search needs, search needs, c .before .before .link-node .kept .0 ∙ i .2, index-more _ _ _ _ _ (i .0) (omega (arith, g .pre .2, c .before .before .before .before .loop-test .taken)) (omega (arith, g .pre .0, i .2, c .before .before .before .before .before .before .before .before .clear .kept .0)) (i .3) (c .before .before .link-node .ensures))
 
 same-length : tie.Need-same-length Inv-loop μ-loop
 same-length c = search needs

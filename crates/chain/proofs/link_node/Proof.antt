@@ -48,7 +48,9 @@ mul-work-4 : tie.Need-mul-work-4
 mul-work-4 c = search needs
 
 slice-write-work-2 : tie.Need-slice-write-work-2
-slice-write-work-2 c = simp length-set (omega (arith, c .before .before .slot .ensures .1, c .before .before .before .before .before .before .before .before .before .before .pre .0))
+slice-write-work-2 c =
+    let g = c .before .before .before .before .before .before .before .before .before .before in
+    simp length-set (omega (arith, c .before .before .slot .ensures .1, g .pre .0))
 
 same-length : tie.Need-same-length
 same-length c = search needs

@@ -10,10 +10,15 @@ use Rattle.chain.proofs.make_node.Statement.{statement}
 use Rattle.chain.proofs.make_node.Tie as tie
 
 returns : tie.Need-returns
-returns c = noded-same _ _ _ _ _ _ _ (c .before .before .before .before .pre .0) (c .before .before .before .before .pre .1) (c .before .before .before .before .pre .2) _ (node-same _ _ _ _ _ _ _ (c .before .before .before .before .pre .0) (c .if1 .taken))
+returns c =
+    let g = c .before .before .before .before in
+    noded-same _ _ _ _ _ _ _ (g .pre .0) (g .pre .1) (g .pre .2) _ (node-same _ _ _ _ _ _ _ (g .pre .0) (c .if1 .taken))
 
 find-node-requires : tie.Need-find-node-requires
-find-node-requires c κs = (c .before .before .before .before .before .pre .1, omega (arith, count-two _ _ _ _ _ _ _ (c .before .before .before .before .before .pre .0) (c .before .before .before .before .before .pre .1) (c .before .before .before .before .before .pre .2), c .before .before .before .before .before .pre .0 .pushing .fits), c .before .before .before .before .before .pre .0 .pushing .fits, c .before .if1 .left, c .before .before .before .before .before .pre .2)
+find-node-requires c κs =
+    let g = c .before .before .before .before .before in
+    let fits = g .pre .0 .pushing .fits in
+    (g .pre .1, omega (arith, count-two _ _ _ _ _ _ _ (g .pre .0) (g .pre .1) (g .pre .2), fits), fits, c .before .if1 .left, g .pre .2)
 
 enum-known-found : tie.Need-enum-known-found
 enum-known-found c = search needs
@@ -22,7 +27,10 @@ same-length : tie.Need-same-length
 same-length c = search needs
 
 returns-2 : tie.Need-returns-2
-returns-2 c = noded-same _ _ _ _ _ _ _ (c .before .before .before .before .before .before .before .before .before .pre .0) (c .before .before .before .before .before .before .before .before .before .pre .1) (c .before .before .before .before .before .before .before .before .before .pre .2) _ (node-hit _ _ _ _ _ _ _ (c .before .before .before .before .before .before .before .before .before .pre .0) (c .before .before .before .before .before .if1 .left) (c .before .found .given .0 .0 .0) (subst (λ z. Searched (c .before .before .before .before .before .before .before .before .before .args .work .now) (c .before .before .before .before .before .before .before .before .before .args .count) (c .before .before .before .before .before .before .before .before .before .args .variable .0) (c .before .before .before .before .before .before .before .before .before .args .low .0) (c .before .before .before .before .before .before .before .before .before .args .high .0) z) (c .before .found .given .1) (c .before .before .before .find-node .ensures)))
+returns-2 c =
+    let g = c .before .before .before .before .before .before .before .before .before in
+    let found = subst (λ z. Searched (g .args .work .now) (g .args .count) (g .args .variable .0) (g .args .low .0) (g .args .high .0) z) (c .before .found .given .1) (c .before .before .before .find-node .ensures) in
+    noded-same _ _ _ _ _ _ _ (g .pre .0) (g .pre .1) (g .pre .2) _ (node-hit _ _ _ _ _ _ _ (g .pre .0) (c .before .before .before .before .before .if1 .left) (c .before .found .given .0 .0 .0) found)
 
 enum-told : tie.Need-enum-told
 enum-told c = search needs
@@ -40,16 +48,31 @@ same-length-2 : tie.Need-same-length-2
 same-length-2 c = search needs
 
 returns-3 : tie.Need-returns-3
-returns-3 c = subst (λ z. Answers (mk (nodes (c .before .before .before .before .before .before .before .before .before .before .before .before .before .before .args .count) (c .before .before .before .before .before .before .before .before .before .before .before .before .before .before .args .work .now)) (c .before .before .before .before .before .before .before .before .before .before .before .before .before .before .args .variable .0) (c .before .before .before .before .before .before .before .before .before .before .before .before .before .before .args .low .0) (c .before .before .before .before .before .before .before .before .before .before .before .before .before .before .args .high .0)) (c .before .before .before .before .before .before .before .before .before .before .before .before .before .before .args .cap) (c .before .before .before .before .push-node .last .0) z) (c .enum-told2 .given .1) (node-pushed _ _ _ _ _ _ _ (c .before .before .before .before .before .before .before .before .before .before .before .before .before .before .pre .0) (c .before .before .before .before .before .before .before .before .before .before .if1 .left) _ (c .before .before .before .before .before .before .before .before .find-node .ensures) (c .before .before .before .before .before .before .enum-told .given .1) (c .before .before .before .before .push-node .last .0) (c .before .before .before .before .push-node .result) (c .before .before .before .before .push-node .ensures .0))
+returns-3 c =
+    let g = c .before .before .before .before .before .before .before .before .before .before .before .before .before .before in
+    let push = c .before .before .before .before in
+    let made = node-pushed _ _ _ _ _ _ _ (g .pre .0) (c .before .before .before .before .before .before .before .before .before .before .if1 .left) _ (c .before .before .before .before .before .before .before .before .find-node .ensures) (c .before .before .before .before .before .before .enum-told .given .1) (push .push-node .last .0) (push .push-node .result) (push .push-node .ensures .0) in
+    subst (λ z. Answers (mk (nodes (g .args .count) (g .args .work .now)) (g .args .variable .0) (g .args .low .0) (g .args .high .0)) (g .args .cap) (push .push-node .last .0) z) (c .enum-told2 .given .1) made
 
 link-node-requires : tie.Need-link-node-requires
-link-node-requires c κs = (omega (arith, c .before .before .before .before .before .before .before .before .before .before .before .before .before .before .before .before .pre .1, c .before .before .before .before .before .before .push-node .kept .0), push-lt _ _ _ _ _ _ _ (c .before .before .before .before .before .before .before .before .before .before .before .before .before .before .before .before .pre .0) (c .before .before .before .before .before .before .before .before .before .before .before .before .before .before .before .before .pre .1) (c .before .before .before .before .before .before .before .before .before .before .before .before .before .before .before .before .pre .2) _ _ _ (c .before .before .before .before .before .before .push-node .kept .0) (subst (λ z. Answers (pushed (c .before .before .before .before .before .before .before .before .before .before .before .before .before .before .before .before .args .work .now) (c .before .before .before .before .before .before .before .before .before .before .before .before .before .before .before .before .args .count) (c .before .before .before .before .before .before .before .before .before .before .before .before .before .before .before .before .args .variable .0) (c .before .before .before .before .before .before .before .before .before .before .before .before .before .before .before .before .args .low .0) (c .before .before .before .before .before .before .before .before .before .before .before .before .before .before .before .before .args .high .0)) (c .before .before .before .before .before .before .before .before .before .before .before .before .before .before .before .before .args .cap) (c .before .before .before .before .before .before .push-node .last .0) z) (c .before .before .noted .given .1) (c .before .before .before .before .before .before .push-node .ensures .0)) (c .before .before .before .before .before .before .push-node .ensures .1))
+link-node-requires c κs =
+    let g = c .before .before .before .before .before .before .before .before .before .before .before .before .before .before .before .before in
+    let push = c .before .before .before .before .before .before in
+    let told = c .before .before .noted .given .1 in
+    let new = subst (λ z. Answers (pushed (g .args .work .now) (g .args .count) (g .args .variable .0) (g .args .low .0) (g .args .high .0)) (g .args .cap) (push .push-node .last .0) z) told (push .push-node .ensures .0) in
+    (omega (arith, g .pre .1, push .push-node .kept .0), push-lt _ _ _ _ _ _ _ (g .pre .0) (g .pre .1) (g .pre .2) _ _ _ (push .push-node .kept .0) new (push .push-node .ensures .1))
 
 same-length-3 : tie.Need-same-length-3
 same-length-3 c = search needs
 
 returns-4 : tie.Need-returns-4
-returns-4 c = noded-new _ _ _ _ _ _ _ (c .before .before .before .before .before .before .before .before .before .before .before .before .before .before .before .before .before .before .before .pre .0) (c .before .before .before .before .before .before .before .before .before .before .before .before .before .before .before .before .before .before .before .pre .1) (c .before .before .before .before .before .before .before .before .before .before .before .before .before .before .before .before .before .before .before .pre .2) _ _ _ (c .before .before .before .before .before .before .before .before .before .push-node .kept .0) (subst (λ z. Answers (pushed (c .before .before .before .before .before .before .before .before .before .before .before .before .before .before .before .before .before .before .before .args .work .now) (c .before .before .before .before .before .before .before .before .before .before .before .before .before .before .before .before .before .before .before .args .count) (c .before .before .before .before .before .before .before .before .before .before .before .before .before .before .before .before .before .before .before .args .variable .0) (c .before .before .before .before .before .before .before .before .before .before .before .before .before .before .before .before .before .before .before .args .low .0) (c .before .before .before .before .before .before .before .before .before .before .before .before .before .before .before .before .before .before .before .args .high .0)) (c .before .before .before .before .before .before .before .before .before .before .before .before .before .before .before .before .before .before .before .args .cap) (c .before .before .before .before .before .before .before .before .before .push-node .last .0) z) (c .before .before .before .before .before .noted .given .1) (c .before .before .before .before .before .before .before .before .before .push-node .ensures .0)) (c .before .before .before .before .before .before .before .before .before .push-node .ensures .1) (subst (λ z. Answers (mk (nodes (c .before .before .before .before .before .before .before .before .before .before .before .before .before .before .before .before .before .before .before .args .count) (c .before .before .before .before .before .before .before .before .before .before .before .before .before .before .before .before .before .before .before .args .work .now)) (c .before .before .before .before .before .before .before .before .before .before .before .before .before .before .before .before .before .before .before .args .variable .0) (c .before .before .before .before .before .before .before .before .before .before .before .before .before .before .before .before .before .before .before .args .low .0) (c .before .before .before .before .before .before .before .before .before .before .before .before .before .before .before .before .before .before .before .args .high .0)) (c .before .before .before .before .before .before .before .before .before .before .before .before .before .before .before .before .before .before .before .args .cap) (c .before .before .before .before .before .before .before .before .before .push-node .last .0) z) (c .before .before .before .before .before .noted .given .1) (node-pushed _ _ _ _ _ _ _ (c .before .before .before .before .before .before .before .before .before .before .before .before .before .before .before .before .before .before .before .pre .0) (c .before .before .before .before .before .before .before .before .before .before .before .before .before .before .before .if1 .left) _ (c .before .before .before .before .before .before .before .before .before .before .before .before .before .find-node .ensures) (c .before .before .before .before .before .before .before .before .before .before .before .enum-told .given .1) (c .before .before .before .before .before .before .before .before .before .push-node .last .0) (c .before .before .before .before .before .before .before .before .before .push-node .result) (c .before .before .before .before .before .before .before .before .before .push-node .ensures .0))) _ (c .before .before .link-node .ensures)
+returns-4 c =
+    let g = c .before .before .before .before .before .before .before .before .before .before .before .before .before .before .before .before .before .before .before in
+    let push = c .before .before .before .before .before .before .before .before .before in
+    let told = c .before .before .before .before .before .noted .given .1 in
+    let new = subst (λ z. Answers (pushed (g .args .work .now) (g .args .count) (g .args .variable .0) (g .args .low .0) (g .args .high .0)) (g .args .cap) (push .push-node .last .0) z) told (push .push-node .ensures .0) in
+    let made = node-pushed _ _ _ _ _ _ _ (g .pre .0) (c .before .before .before .before .before .before .before .before .before .before .before .before .before .before .before .if1 .left) _ (c .before .before .before .before .before .before .before .before .before .before .before .before .before .find-node .ensures) (c .before .before .before .before .before .before .before .before .before .before .before .enum-told .given .1) (push .push-node .last .0) (push .push-node .result) (push .push-node .ensures .0) in
+    noded-new _ _ _ _ _ _ _ (g .pre .0) (g .pre .1) (g .pre .2) _ _ _ (push .push-node .kept .0) new (push .push-node .ensures .1) (subst (λ z. Answers (mk (nodes (g .args .count) (g .args .work .now)) (g .args .variable .0) (g .args .low .0) (g .args .high .0)) (g .args .cap) (push .push-node .last .0) z) told made) _ (c .before .before .link-node .ensures)
 
 pub make-node-spec : {M : Type 1} → statement M
 make-node-spec =

@@ -1,4 +1,6 @@
-use Rattle.chain.proofs.ChainLaws.{slot-is}
+use mathlib.Core.Path.{refl}
+use native.Mathlib.Nat.{mod-lt}
+use Rattle.chain.specs.Chain.{slotOf}
 use borrow.Author.Needs.{needs}
 use Rattle.chain.proofs.slot.Statement.{statement}
 use Rattle.chain.proofs.slot.Tie as tie
@@ -25,7 +27,8 @@ rem-result : tie.Need-rem-result
 rem-result c = search needs
 
 returns : tie.Need-returns
-returns c = slot-is _ _ _ _ (c .before .before .pre)
+unfolding slotOf
+returns c = (refl, mod-lt _ (c .before .before .pre))
 
 pub slot-spec : {M : Type 1} → statement M
 slot-spec =

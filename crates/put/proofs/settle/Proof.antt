@@ -1,7 +1,7 @@
 use mathlib.Core.Path.{refl, subst}
 use Prim.Native.Nat.{_-_}
 use borrow.Author.Tests.{eqb-true}
-use Rattle.chain.specs.Chain.{Noting}
+use Rattle.chain.specs.Chain.{Notes}
 use Rattle.put.proofs.SettleLaws.{slot-in, a-small, same-settled, root-in, made-settled}
 use borrow.Author.Needs.{needs}
 use Rattle.put.proofs.settle.Statement.{statement}
@@ -37,12 +37,12 @@ same-length-2 c = search needs
 returns-2 : tie.Need-returns-2
 returns-2 c =
     let g = c .before .before .before .before .before .before .before .before .before .before in
-    subst (λ z. Noting (g .args .work .now) (c .before .before .before .before .make-node .last .0) (g .args .job .cap) (g .args .count) (g .args .cut .variable .0) (g .args .low .0) (g .args .high .0) z) (c .enum-told .given .1) (c .before .before .before .before .make-node .ensures)
+    subst (λ z. Notes (g .args .work .now) (c .before .before .before .before .make-node .last .0) (g .args .job .cap) (g .args .count) (g .args .cut .variable .0) (g .args .low .0) (g .args .high .0) z) (c .enum-told .given .1) (c .before .before .before .before .make-node .ensures)
 
 keep-requires-2 : tie.Need-keep-requires-2
 keep-requires-2 c κs =
     let g = c .before .before .before .before .before .before .before .before .before .before .before .before in
-    let h = subst (λ z. Noting (g .args .work .now) (c .before .before .before .before .before .before .make-node .last .0) (g .args .job .cap) (g .args .count) (g .args .cut .variable .0) (g .args .low .0) (g .args .high .0) z) (c .before .before .made .given .1) (c .before .before .before .before .before .before .make-node .ensures) in
+    let h = subst (λ z. Notes (g .args .work .now) (c .before .before .before .before .before .before .make-node .last .0) (g .args .job .cap) (g .args .count) (g .args .cut .variable .0) (g .args .low .0) (g .args .high .0) z) (c .before .before .made .given .1) (c .before .before .before .before .before .before .make-node .ensures) in
     (slot-in _ _ _ _ _ _ _ (g .pre) (c .before .before .before .before .before .before .make-node .last .0) (c .before .before .before .before .before .before .make-node .kept .0), g .pre .noded .pushing .few, g .pre .stamp, root-in _ _ _ _ _ _ _ (g .pre) _ _ _ (h .holds))
 
 same-length-3 : tie.Need-same-length-3
@@ -51,7 +51,7 @@ same-length-3 c = search needs
 returns-3 : tie.Need-returns-3
 returns-3 c =
     let g = c .before .before .before .before .before .before .before .before .before .before .before .before .before .before .before in
-    let h = subst (λ z. Noting (g .args .work .now) (c .before .before .before .before .before .before .before .before .before .make-node .last .0) (g .args .job .cap) (g .args .count) (g .args .cut .variable .0) (g .args .low .0) (g .args .high .0) z) (c .before .before .before .before .before .made .given .1) (c .before .before .before .before .before .before .before .before .before .make-node .ensures) in
+    let h = subst (λ z. Notes (g .args .work .now) (c .before .before .before .before .before .before .before .before .before .make-node .last .0) (g .args .job .cap) (g .args .count) (g .args .cut .variable .0) (g .args .low .0) (g .args .high .0) z) (c .before .before .before .before .before .made .given .1) (c .before .before .before .before .before .before .before .before .before .make-node .ensures) in
     made-settled _ _ _ _ _ _ _ (g .pre) (c .before .before .before .before .before .before .before .before .before .make-node .last .0) (c .before .before .before .before .before .made .given .0 .0 .0) (c .before .before .before .before .before .made .given .0 .1 .0) h (c .before .before .before .before .before .before .before .before .before .make-node .kept .0) _ (c .before .before .keep2 .ensures)
 
 pub settle-spec : {M : Type 1} → statement M
