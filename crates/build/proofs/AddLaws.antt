@@ -19,6 +19,7 @@ use Rattle.theory.proofs.Again.{room-canon}
 use Rattle.cube.specs.Cube.{setCube}
 use Rattle.cube.proofs.Cubes.{set-deep}
 use Rattle.cube.proofs.Sizes.{pool-bound, new-bound}
+use Rattle.chain.specs.Chain.{Chained, Indexed}
 use Rattle.put.specs.declared.Job.{Job}
 use Rattle.put.specs.Put.{memoBase, tree, Ready, Put}
 use Rattle.build.specs.declared.Goal.{Goal}
@@ -46,7 +47,7 @@ module _ (w out : List ℕ) (g : Goal) (k a : ℕ) (r : Compacting w out g k a) 
     stamp = r .stamp;
     few = r .few;
     small = omega (arith, r .few, r .cap);
-    long = r .long;
+    long = omega (arith, r .long);
     wide = omega (arith, r .wide);
     fits = r .fits;
     holds = r .some;
@@ -72,10 +73,14 @@ module _ (w out : List ℕ) (g : Goal) (k a : ℕ) (r : Compacting w out g k a) 
     pub fresh-is : fresh (g .n) s a ≡ (nodes m out₁, o)
     fresh-is = sym carried-is ∙ c .holds .is
 
-    pub compact-done : (w₂ : List ℕ) → Copied w₁ w₂ out₁ (3 * m) → Compacted w w₂ g k a o m
-    compact-done w₂ p = record {
-      holds = record { is = fresh-is ∙ ap (λ (z : Table). (z, o)) (nodes-agree m out₁ w₂ (λ i h. sym (p .front i h))); fits = c .holds .fits };
-      young = λ x h. subst (λ z. z / memoBase ≤ g .stamp) (sym (p .back (3 * g .cap + x) (omega (arith, c .holds .fits, r .cap)))) (c .young x h);
+    pub compact-done : (w₂ w₃ : List ℕ) → Copied w₁ w₂ out₁ (3 * m) → Indexed w₂ w₃ (g .cap) m → Compacted w w₃ g k a o m
+    compact-done w₂ w₃ p x = record {
+      holds = record {
+        is = fresh-is ∙ ap (λ (z : Table). (z, o)) (nodes-agree m out₁ w₃ (λ i h. sym (x .front i (omega (arith, c .holds .fits, r .cap)) ∙ p .front i h)));
+        fits = c .holds .fits;
+      };
+      young = λ y h. subst (λ z. z / memoBase ≤ g .stamp) (sym (x .front (3 * g .cap + y) (omega arith) ∙ p .back (3 * g .cap + y) (omega (arith, c .holds .fits, r .cap)))) (c .young y h);
+      chained = x .chained;
     }
 
     fresh-sound : Walked (g .n) (constants (g .n)) (g .n) 0 (treeOf (g .n) s 0 a) (nodes m out₁, o)
@@ -108,7 +113,7 @@ module _ (w out : List ℕ) (g : Goal) (k a : ℕ) (r : Compacting w out g k a) 
   export-full h f = omega (arith, compact-full f, pool-bound (g .n) s (r .good) a (r .stands), length-nodes k w)
 
 -- ---- one clause more
-module _ (w out : List ℕ) (j : Job) (room limit k a : ℕ) (r : Adding w out j room limit k a) where
+module _ (w out : List ℕ) (j : Job) (room k a : ℕ) (r : Adding w out j room k a) where
   abbrev s₀ : Table
   s₀ = nodes k w
 
@@ -132,6 +137,7 @@ module _ (w out : List ℕ) (j : Job) (room limit k a : ℕ) (r : Adding w out j
     stands = r .pool .stands;
     known = λ x h st. absurd (let z : ⊥ = omega (arith, r .pool .older x h) in z);
     young = λ x h. omega (arith, r .pool .older x h);
+    chained = r .pool .chained;
   }
 
   tree-is : tree j s₀ 0 a false ≡ T
@@ -156,11 +162,10 @@ module _ (w out : List ℕ) (j : Job) (room limit k a : ℕ) (r : Adding w out j
     own : fresh (j .n) s₁ o ≡ walk (constants (j .n)) 0 T
     own = ap (walk (constants (j .n)) 0) (sound₁ .means)
 
-    pub add-small : c ≤ limit → Added w w₁ j room k a o c limit
+    pub add-small : c ≤ room → Added w w₁ j room k a o c
     add-small h = record {
-      within = r .within;
-      pool = record { good = sound₁ .good; stands = sound₁ .stands; means = sound₁ .means; fits = omega (arith, r .within); older = λ x i. omega (arith, u .young x i) };
-      small = under (j .n) T T-deep room (r .some) (omega (arith, ap (λ (z : Table × ℕ). length (z .0)) own, pool-bound (j .n) s₁ (sound₁ .good) o (sound₁ .stands), length-nodes c w₁, r .within));
+      pool = record { good = sound₁ .good; stands = sound₁ .stands; means = sound₁ .means; fits = h; older = λ x i. omega (arith, u .young x i); chained = u .chained };
+      small = under (j .n) T T-deep room (r .some) (omega (arith, ap (λ (z : Table × ℕ). length (z .0)) own, pool-bound (j .n) s₁ (sound₁ .good) o (sound₁ .stands), length-nodes c w₁));
     }
 
     module _ (g : Goal) (gn : g .n ≡ j .n) (gs : g .stamp ≡ j .stamp + 1) (gc : g .cap ≡ j .cap) (gr : g .room ≡ room) where
@@ -182,22 +187,19 @@ module _ (w out : List ℕ) (j : Job) (room limit k a : ℕ) (r : Adding w out j
       fresh-own : fresh (g .n) s₁ o ≡ walk (constants (j .n)) 0 T
       fresh-own = ap (λ (x : ℕ). fresh x s₁ o) gn ∙ own
 
-      pub add-fits : (w₂ : List ℕ) (q m : ℕ) → Compacted w₁ w₂ g c o q m → m ≤ 4096
-      add-fits w₂ q m h = omega (arith, h .holds .fits, r .few)
-
-      pub add-done : (w₂ : List ℕ) (q m next : ℕ) → next ≤ room → Compacted w₁ w₂ g c o q m → Added w w₂ j room k a q m next
-      add-done w₂ q m next le h =
+      pub add-done : (w₂ : List ℕ) (q m : ℕ) → Compacted w₁ w₂ g c o q m → Added w w₂ j room k a q m
+      add-done w₂ q m h =
           let is : walk (constants (j .n)) 0 T ≡ (nodes m w₂, q) = sym fresh-own ∙ h .holds .is in
           let b : Walked (j .n) (constants (j .n)) (j .n) 0 T (nodes m w₂, q) =
           subst (λ z. Walked (j .n) (constants (j .n)) (j .n) 0 T z) is (sound (j .n) (j .n) T T-deep 0 (omega arith) (constants (j .n)) (constants-good (j .n))) in
           record {
-            within = le;
             pool = record {
               good = b .good;
               stands = b .stands;
               means = b .means;
               fits = omega (arith, h .holds .fits);
               older = subst (λ (x : ℕ). Older w₂ x (j .stamp + 2)) gc (λ x i. omega (arith, h .young x i));
+              chained = subst (λ (x : ℕ). Chained w₂ x m) gc (h .chained);
             };
             small = under (j .n) T T-deep room (r .some) (omega (arith, ap (λ (z : Table × ℕ). length (z .0)) is, length-nodes m w₂, h .holds .fits));
           }

@@ -18,11 +18,13 @@ use Rattle.theory.proofs.Again.{walk-konst}
 use Rattle.theory.specs.Clause.{Clause}
 use Rattle.cube.specs.Cube.{entryAt, opening, setCube, built, run}
 use Rattle.cube.proofs.Runs.{built-snoc, konst-deep}
+use Rattle.chain.specs.Chain.{Zeroed}
+use Rattle.chain.proofs.ChainLaws.{chained-none}
 use Rattle.put.specs.declared.Job.{Job}
 use Rattle.making.specs.Made.{Beyond}
 use Rattle.put.specs.Put.{memoBase}
 use Rattle.build.specs.declared.Goal.{Goal}
-use Rattle.build.specs.Build.{Zeros, Older, Pool, Adding, target, Added, Exporting, Exported, Within, Given, runOf, Building, Fit, Counted, Refused}
+use Rattle.build.specs.Build.{Older, Pool, Adding, target, Added, Exporting, Exported, Within, Given, runOf, Building, Fit, Counted, Refused}
 use Rattle.build.proofs.AddLaws.{under}
 
 -- the state after i clauses
@@ -47,7 +49,7 @@ module _ (n : ℕ) (entry : ℕ → Clause) (k term room : ℕ) (out₀ w₀ : L
       subst (λ (x : ℕ). length (canon n (runOf n term entry x)) ≤ room) (sym z)
       (subst (λ (t : Tree). length (canon n t) ≤ room) (sym (none n term entry)) (under n (konst n (not (truth term))) (konst-deep n (not (truth term))) room (b .some) (omega (arith, b .some))))
 
-  pub starts : (w₁ w₂ : List ℕ) → Zeros w₁ (3 * (2 * room)) (4 * (2 * room)) → nodes 2 w₂ ≡ (constants n) → Beyond 2 w₁ w₂ → Going n entry term room w₂ (1 - term) 2 0
+  pub starts : (w₁ w₂ : List ℕ) → Zeroed w₀ w₁ (3 * (2 * room)) (5 * (2 * room)) → nodes 2 w₂ ≡ (constants n) → Beyond 2 w₁ w₂ → Going n entry term room w₂ (1 - term) 2 0
   starts w₁ w₂ z e y = record {
     pool = subst (λ (x : ℕ). Pool w₂ n (2 * room) room 2 (1 - term) x (runOf n term entry 0)) (let q : 1 ≡ 2 * 0 + 1 = omega arith in q) (record {
       good = subst (Good n) (sym e) (constants-good n);
@@ -55,7 +57,8 @@ module _ (n : ℕ) (entry : ℕ → Clause) (k term room : ℕ) (out₀ w₀ : L
       means = ap (λ (s : Table). treeOf n s 0 (1 - term)) e ∙ treeOf-konst n ((constants n)) n 0 (1 - term) (omega arith) (ends-mark (1 - term) (omega arith))
           ∙ ap (konst n) (flip term (b .polar)) ∙ sym (none n term entry);
       fits = b .some;
-      older = λ x h. subst (λ (q : ℕ). q / memoBase < 1) (sym (y (3 * (2 * room) + x) (omega (arith, b .some)) ∙ z (3 * (2 * room) + x) (omega arith) (omega arith))) (omega (arith, zero-div memoBase));
+      older = λ x h. subst (λ (q : ℕ). q / memoBase < 1) (sym (y (3 * (2 * room) + x) (omega (arith, b .some)) ∙ z .zero (3 * (2 * room) + x) (omega arith) (omega arith))) (omega (arith, zero-div memoBase));
+      chained = chained-none w₂ (2 * room) (λ h a. y (4 * (2 * room) + h) (omega (arith, b .some)) ∙ z .zero (4 * (2 * room) + h) (omega arith) (omega arith));
     });
     fit = empty-fits;
   }
@@ -71,9 +74,8 @@ module _ (n : ℕ) (entry : ℕ → Clause) (k term room : ℕ) (out₀ w₀ : L
       abbrev job : Job
       job = record { n = n; fixed = f; values = v; term = term; stamp = 2 * i + 1; cap = 2 * room }
 
-      pub adding : (limit : ℕ) → limit ≤ room → i < k → length out ≡ length out₀ → length w ≡ length w₀ → Adding w out job room limit count root
-      adding limit le h lo lw = record {
-        within = le;
+      pub adding : i < k → length out ≡ length out₀ → length w ≡ length w₀ → Adding w out job room count root
+      adding h lo lw = record {
         marks = b .marks;
         fixed = subst (λ (x : ℕ). x < 2 ^ n) (sym ef) (b .masks i h);
         term = b .polar;
@@ -83,7 +85,7 @@ module _ (n : ℕ) (entry : ℕ → Clause) (k term room : ℕ) (out₀ w₀ : L
         few = b .few;
         long = omega (arith, b .long);
         wide = omega (arith, b .wide);
-        pool = record { good = g .pool .good; stands = g .pool .stands; means = refl; fits = g .pool .fits; older = g .pool .older };
+        pool = record { good = g .pool .good; stands = g .pool .stands; means = refl; fits = g .pool .fits; older = g .pool .older; chained = g .pool .chained };
       }
 
       target-is : target job (nodes count w) root ≡ runOf n term entry (i + 1)
@@ -100,8 +102,8 @@ module _ (n : ℕ) (entry : ℕ → Clause) (k term room : ℕ) (out₀ w₀ : L
         | no e ↦ g .fit m (omega arith)
       ]
 
-      pub goes-on : (w₁ : List ℕ) (r c limit : ℕ) → Added w w₁ job room count root r c limit → Going n entry term room w₁ r c (i + 1)
-      goes-on w₁ r c limit u = record {
+      pub goes-on : (w₁ : List ℕ) (r c : ℕ) → Added w w₁ job room count root r c → Going n entry term room w₁ r c (i + 1)
+      goes-on w₁ r c u = record {
         pool = subst (λ (x : ℕ). Pool w₁ n (2 * room) room c r x (runOf n term entry (i + 1))) (let q : 2 * i + 1 + 2 ≡ 2 * (i + 1) + 1 = omega arith in q)
             (subst (λ (t : Tree). Pool w₁ n (2 * room) room c r (2 * i + 1 + 2) t) target-is (u .pool));
         fit = fit-more (subst (λ (t : Tree). length (canon n t) ≤ room) target-is (u .small));

@@ -1,4 +1,4 @@
--- Laws of the plain loops.
+-- Laws of the plain loop.
 use mathlib.Core.Path.{refl, sym, ap, _∙_}
 use mathlib.Core.List.{List}
 use Prim.Native.Nat.{ℕ, _+_, _-_, _<_}
@@ -6,16 +6,7 @@ use native.Mathlib.Omega.{arith}
 use native.Mathlib.Decide.{ℕ-discrete}
 use lib.ListN.{length, getD, set}
 use lib.Seq.{getD-set-same, getD-set-other}
-use Rattle.build.specs.Build.{Zeros, Copied}
-
-pub zeros-none : (w : List ℕ) (s : ℕ) → Zeros w s s
-zeros-none w s i h k = absurd (let z : ⊥ = omega arith in z)
-
-pub zeros-more : (w : List ℕ) (s i : ℕ) → i < length w → Zeros w s i → Zeros (set w i 0) s (i + 1)
-zeros-more w s i h f j a b = elim (ℕ-discrete j i) [
-  | yes e ↦ ap (λ x. getD (set w i 0) x 0) e ∙ getD-set-same w i 0 0 h
-  | no e ↦ getD-set-other w i j 0 0 e ∙ f j a (omega arith)
-]
+use Rattle.build.specs.Build.{Copied}
 
 pub copied-none : (w t : List ℕ) → Copied w w t 0
 copied-none w t = record { front = λ i h. absurd (let z : ⊥ = omega arith in z); back = λ i h. refl }

@@ -16,6 +16,7 @@ use Rattle.making.specs.declared.Tabled.the-variants as tabled
 use Rattle.pool.specs.declared.Noted.{Noted}
 use Rattle.pool.specs.declared.Noted.the-variants.{Node as Got, Full}
 use Rattle.pool.specs.Pool.{Holds}
+use Rattle.chain.specs.Chain.{Chained}
 use Rattle.put.specs.Put.{memoBase, stampLimit, word, Young}
 use Rattle.build.specs.declared.Goal.{Goal}
 use Rattle.build.specs.declared.Grown.{Grown}
@@ -69,10 +70,7 @@ abbrev pub Carries : List ℕ → List ℕ → List ℕ → List ℕ → Goal �
 Carries w w′ out out′ g k m a (Got r m′) = Carried w w′ out out′ g k m a (r .0) m′
 Carries w w′ out out′ g k m a Full = g .room < length ((carried (g .n) (nodes k w) (nodes m out) a) .0)
 
--- ---- plain loops
-abbrev pub Zeros : List ℕ → ℕ → ℕ → Type 0
-Zeros w s e = (i : ℕ) → s ≤ i → i < e → getD w i 0 ≡ 0
-
+-- ---- a plain loop
 pub record Copied (w w′ t : List ℕ) (e : ℕ) : Type 0 where
   pub front : (i : ℕ) → i < e → getD w′ i 0 ≡ getD t i 0
   pub back : (i : ℕ) → e ≤ i → getD w′ i 0 ≡ getD w i 0
@@ -88,7 +86,7 @@ pub record Compacting (w out : List ℕ) (g : Goal) (k a : ℕ) : Type 0 where
   pub few : g .cap ≤ memoBase
   pub cap : g .cap ≡ 2 * g .room
   pub some : 2 ≤ g .room
-  pub long : 4 * g .cap ≤ length w
+  pub long : 6 * g .cap ≤ length w
   pub wide : 3 * g .room ≤ length out
   pub fits : k ≤ g .cap
   pub good : Good (g .n) (nodes k w)
@@ -102,6 +100,7 @@ fresh n s a = walk ((constants n)) 0 (treeOf n s 0 a)
 pub record Compacted (w w′ : List ℕ) (g : Goal) (k a r m : ℕ) : Type 0 where
   pub holds : Holds (fresh (g .n) (nodes k w) a) (g .room) w′ r m
   pub young : Young w′ (g .cap) (g .stamp)
+  pub chained : Chained w′ (g .cap) m
 
 abbrev pub Compacts : List ℕ → List ℕ → Goal → ℕ → ℕ → Noted → Type 0
 Compacts w w′ g k a (Got r m) = Compacted w w′ g k a (r .0) m
@@ -115,9 +114,9 @@ pub record Pool (w : List ℕ) (n cap room count root stamp : ℕ) (t : Tree) : 
   pub means : treeOf n (nodes count w) 0 root ≡ t
   pub fits : count ≤ room
   pub older : Older w cap stamp
+  pub chained : Chained w cap count
 
-pub record Adding (w out : List ℕ) (j : Job) (room limit k a : ℕ) : Type 0 where
-  pub within : limit ≤ room
+pub record Adding (w out : List ℕ) (j : Job) (room k a : ℕ) : Type 0 where
   pub marks : j .n ≤ 60
   pub fixed : j .fixed < 2 ^ j .n
   pub term : j .term < 2
@@ -125,7 +124,7 @@ pub record Adding (w out : List ℕ) (j : Job) (room limit k a : ℕ) : Type 0 w
   pub cap : j .cap ≡ 2 * room
   pub some : 2 ≤ room
   pub few : room ≤ 4096
-  pub long : 8 * room ≤ length w
+  pub long : 12 * room ≤ length w
   pub wide : 3 * room ≤ length out
   pub pool : Pool w (j .n) (j .cap) room k a (j .stamp) (treeOf (j .n) (nodes k w) 0 a)
 
@@ -133,13 +132,12 @@ pub record Adding (w out : List ℕ) (j : Job) (room limit k a : ℕ) : Type 0 w
 abbrev pub target : Job → Table → ℕ → Tree
 target j s a = setCube (truth (j .term)) (j .fixed) (j .values) (treeOf (j .n) s 0 a)
 
-pub record Added (w w′ : List ℕ) (j : Job) (room k a r c limit : ℕ) : Type 0 where
-  pub within : limit ≤ room
+pub record Added (w w′ : List ℕ) (j : Job) (room k a r c : ℕ) : Type 0 where
   pub pool : Pool w′ (j .n) (j .cap) room c r (j .stamp + 2) (target j (nodes k w) a)
   pub small : length (canon (j .n) (target j (nodes k w) a)) ≤ room
 
 abbrev pub Adds : List ℕ → List ℕ → Job → ℕ → ℕ → ℕ → Grown → Type 0
-Adds w w′ j room k a (At r c limit) = Added w w′ j room k a (r .0) c limit
+Adds w w′ j room k a (At r c) = Added w w′ j room k a (r .0) c
 Adds w w′ j room k a Over = room < length (canon (j .n) (target j (nodes k w) a))
 
 -- ---- the table at last
@@ -173,7 +171,7 @@ pub record Building (n : ℕ) (entry : ℕ → Clause) (k term room : ℕ) (out 
   pub few : room ≤ 4096
   pub count : k ≤ 65536
   pub masks : (i : ℕ) → i < k → (entry i) .fixed < 2 ^ n
-  pub long : 8 * room ≤ length w
+  pub long : 12 * room ≤ length w
   pub wide : 3 * room ≤ length out
 
 -- every opening run's table has its place

@@ -1,11 +1,11 @@
 // A list of clauses built in one pool: set one after another in list order, the pool brought to its root's own table when it has grown. Inner.
-// In work: the pool of 2 * room nodes from 0 on, the memo from 6 * room on.
+// In work: the pool of 2 * room nodes from 0 on, the memo from 6 * room on, the pool's chains from 8 * room on.
 ghost use mathlib.Core.Path.{_≡_};
 ghost use Prim.Native.Nat.{_+_, _*_, _≤_};
 ghost use lib.ListN.{length};
-ghost use Rattle.refusal.specs.Limits.{maxMarks, maxNodes};
+ghost use Rattle.refusal.specs.Limits.{maxMarks};
 ghost use Rattle.cube.specs.Cube.{entryAt};
-ghost use Rattle.build.specs.Build.{Carrying, Carries, Zeros, Copied, Compacting, Compacts, Adding, Adds, Exporting, Exported, Within, Given, Building, Builds};
+ghost use Rattle.build.specs.Build.{Carrying, Carries, Copied, Compacting, Compacts, Adding, Adds, Exporting, Exported, Within, Given, Building, Builds};
 use making::Tabled;
 use pool::Found;
 use pool::Noted;
@@ -59,18 +59,6 @@ pub fn carry(
     Noted::Node(r, more)
 }
 
-// Zeros from start up to, not including, end.
-pub fn clear(work: &mut [u32], start: usize, end: usize)
-    requires { ⌜ (start ≤ end) × (end ≤ length (now work)) ⌝ }
-    ensures { λ _. ⌜ Zeros (now (work .exit)) start end ⌝ }
-{
-    let mut i = start;
-    while i < end {
-        work[i] = 0;
-        i += 1;
-    }
-}
-
 // The first nodes of a table to the front of work.
 pub fn copy_nodes(work: &mut [u32], bdd: &[u32], count: u32)
     requires { ⌜ (3 * count ≤ length (now work)) × (3 * count ≤ length (now bdd)) ⌝ }
@@ -95,43 +83,35 @@ pub fn compact(work: &mut [u32], out: &mut [u32], goal: Goal, count: u32, p: Bdd
         return Noted::Full;
     };
     copy_nodes(work, &*out, made);
+    chain::index_nodes(work, goal.cap, made);
     Noted::Node(r, made)
 }
 
-// Where the pool is next brought to its root's table: a linear search wants little that is dead.
-pub fn limit_after(count: u32, room: u32) -> u32
-    requires { ⌜ count ≤ maxNodes ⌝ }
-    ensures { λ r. ⌜ r ≤ room ⌝ }
-{
-    let twice = 2 * count + 64;
-    if twice < room { twice } else { room }
-}
-
-// The run's node, the pool's count and its next limit; or the run's own table has no room.
+// The run's node and the pool's count; or the run's own table has no room.
 pub enum Grown {
-    At(BddPointer, u32, u32),
+    At(BddPointer, u32),
     Over,
 }
 
 // One clause more: the run's node in the pool, which holds at most room nodes again; Over exactly if the run's own table has more.
+// Only a pool over room is brought to its root's table: along chains, nodes that are dead cost less than bringing it there earlier.
 pub fn add_clause(
     work: &mut [u32],
     out: &mut [u32],
     job: Job,
     room: u32,
-    limit: u32,
     count: u32,
     p: BddPointer,
 ) -> Grown
-    requires { ⌜ Adding (now work) (now out) job room limit count (p .0) ⌝ }
+    requires { ⌜ Adding (now work) (now out) job room count (p .0) ⌝ }
     ensures { λ r. ⌜ Adds (now (work .entry)) (now (work .exit)) job room count (p .0) r ⌝ }
 {
     let noted = put::put(work, job, 0, count, p, false);
     let Noted::Node(r, more) = noted else {
         return Grown::Over;
     };
-    if more <= limit {
-        return Grown::At(r, more, limit);
+    if more <= room {
+        return Grown::At(r, more);
     }
     let goal = Goal {
         n: job.n,
@@ -143,8 +123,7 @@ pub fn add_clause(
     let Noted::Node(root, nodes) = own else {
         return Grown::Over;
     };
-    let next = limit_after(nodes, room);
-    Grown::At(root, nodes, next)
+    Grown::At(root, nodes)
 }
 
 // The table of the pool's node p in out, and its count: false is one node.
@@ -196,11 +175,10 @@ pub fn build(
     ensures { λ r. ⌜ Builds n (entryAt cases n (now (list .entry))) count term room (now (out .exit)) r ⌝ }
 {
     let cap = 2 * room;
-    clear(work, 3 * (cap as usize), 4 * (cap as usize));
+    chain::clear(work, 3 * (cap as usize), 5 * (cap as usize));
     making::put_constants(work, n);
     let mut root = BddPointer(1 - term);
     let mut held: u32 = 2;
-    let mut limit = limit_after(32, room);
     let mut i: u32 = 0;
     while i < count {
         let clause = clause_at(n, list, cases, i);
@@ -212,13 +190,12 @@ pub fn build(
             stamp: 2 * i + 1,
             cap,
         };
-        let grown = add_clause(work, out, job, room, limit, held, root);
-        let Grown::At(p, more, next) = grown else {
+        let grown = add_clause(work, out, job, room, held, root);
+        let Grown::At(p, more) = grown else {
             return Tabled::Over((i + 1) as u64);
         };
         root = p;
         held = more;
-        limit = next;
         i += 1;
     }
     let goal = Goal {

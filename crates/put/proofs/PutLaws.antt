@@ -64,6 +64,7 @@ module _ (w : List ℕ) (j : Job) (l k a : ℕ) (off : Bool) (r : Ready w j l k 
     stands = rw (add-one v) lo-stands;
     known = r .known;
     young = r .young;
+    chained = r .chained;
   }
 
   pub full-lo : j .cap < length ((walk s (v + 1) (tree j s (v + 1) (c .low .0) (c .lowkept))) .0) → j .cap < length ((walk s l T) .0)
@@ -106,6 +107,7 @@ module _ (w : List ℕ) (j : Job) (l k a : ℕ) (off : Bool) (r : Ready w j l k 
       stands = rw (add-one v) hi-stands₁;
       known = u .known;
       young = u .young;
+      chained = u .chained;
     }
 
     hi-same : tree j s₁ (suc v) (c .high .0) (c .highkept) ≡ hi-tree
@@ -161,6 +163,7 @@ module _ (w : List ℕ) (j : Job) (l k a : ℕ) (off : Bool) (r : Ready w j l k 
         high = d .high ∙ sym (steps true);
         fits = a-stands;
         stamp = r .stamp;
+        chained = x .chained;
       }
 
       pub full-node : j .cap < length ((mk s₂ v p q) .0) → j .cap < length ((walk s l T) .0)
@@ -255,6 +258,7 @@ module _ (w : List ℕ) (j : Job) (l k a : ℕ) (off : Bool) (r : Ready w j l k 
             | inl q ↦ subst (λ z. z / memoBase ≤ j .stamp) (sym q) (x .young i h)
             | inr q ↦ subst (λ z. z / memoBase ≤ j .stamp) (sym (q .2)) (omega (arith, word-div))
           ];
+          chained = y .chained;
         }
 
       pub finish : (w₃ : List ℕ) (z : Noted) → Settles w₂ w₃ j k₂ c a p q z → Puts w w₃ j l k a off z
@@ -263,7 +267,7 @@ module _ (w : List ℕ) (j : Job) (l k a : ℕ) (off : Bool) (r : Ready w j l k 
 
 -- what was known at once
 pub put-done : (w : List ℕ) (j : Job) (l k a : ℕ) (off : Bool) (o : ℕ) → Ready w j l k a → walk (nodes k w) l (tree j (nodes k w) l a off) ≡ (nodes k w, o) → Put w w j l k a off o k
-put-done w j l k a off o r e = record { holds = record { is = e; fits = r .fits }; known = r .known; young = r .young }
+put-done w j l k a off o r e = record { holds = record { is = e; fits = r .fits }; known = r .known; young = r .young; chained = r .chained }
 
 -- from the level of the cut
 pub forking : (w : List ℕ) (j : Job) (l k a : ℕ) (off : Bool) (c : Cut) → Ready w j l k a → Parted w j l k a off c → Forking w j k a c
@@ -281,10 +285,11 @@ forking w j l k a off c r d = record {
     stands = d .fits;
     known = r .known;
     young = r .young;
+    chained = r .chained;
   };
   parted = record { from = omega arith; below = d .below; low = d .low; high = d .high; fits = d .fits; walks = sym (d .to) ∙ d .walks; to = refl; owns = d .owns };
 }
 
 pub lifted : (w w′ : List ℕ) (j : Job) (l k a : ℕ) (off : Bool) (c : Cut) → Parted w j l k a off c → (z : Noted) → Puts w w′ j (c .variable .0) k a false z → Puts w w′ j l k a off z
-lifted w w′ j l k a off c d (Got o k₁) u = record { holds = record { is = d .to ∙ u .holds .is; fits = u .holds .fits }; known = u .known; young = u .young }
+lifted w w′ j l k a off c d (Got o k₁) u = record { holds = record { is = d .to ∙ u .holds .is; fits = u .holds .fits }; known = u .known; young = u .young; chained = u .chained }
 lifted w w′ j l k a off c d Full h = rw (d .to) h

@@ -16,8 +16,9 @@ use Rattle.theory.proofs.Words.{length-nodes, nodes-agree}
 use Rattle.put.specs.declared.Job.{Job}
 use Rattle.put.specs.declared.Cut.{Cut}
 use Rattle.put.specs.Put.{memoBase, word, wordOf, Settling, Settled}
-use Rattle.making.specs.Made.{Beyond}
 use Rattle.pool.specs.Pool.{Holds}
+use Rattle.chain.specs.Chain.{Chained, Noded}
+use Rattle.chain.proofs.ChainLaws.{chained-agree}
 
 -- what a store in the memo leaves
 module _ (cap stamp a e : ℕ) (w w′ : List ℕ) (h : 3 * cap + a < length w) where
@@ -27,6 +28,11 @@ module _ (cap stamp a e : ℕ) (w w′ : List ℕ) (h : 3 * cap + a < length w) 
   pub keep-nodes : (own : Bool) (k : ℕ) → k ≤ cap → w′ ≡ cond own (set w (3 * cap + a) e) w → nodes k w′ ≡ nodes k w
   keep-nodes true k le q = store-nodes k le q
   keep-nodes false k le q = ap (nodes k) q
+
+  pub keep-chained : (own : Bool) (k : ℕ) → k ≤ cap → a < cap → w′ ≡ cond own (set w (3 * cap + a) e) w → Chained w cap k → Chained w′ cap k
+  keep-chained true k le lt q c =
+      subst (λ u. Chained u cap k) (sym q) (chained-agree w _ cap k (λ x d. getD-set-other w (3 * cap + a) x e 0 (omega arith)) (λ x d. getD-set-other w (3 * cap + a) x e 0 (omega arith)) c)
+  keep-chained false k le lt q c = subst (λ u. Chained u cap k) (sym q) c
 
   pub keep-memo : (own : Bool) → w′ ≡ cond own (set w (3 * cap + a) e) w → (x : ℕ) → (word w′ cap x ≡ word w cap x) ⊎ ((own ≡ true) × (x ≡ a) × (word w′ cap x ≡ e))
   keep-memo false q x = inl (ap (λ u. word u cap x) q)
@@ -57,6 +63,7 @@ module _ (w : List ℕ) (j : Job) (k : ℕ) (c : Cut) (a p q : ℕ) (r : Settlin
       fits = r .noded .pushing .fits;
     };
     memo = λ x h. keep-memo (j .cap) (j .stamp) a _ w w′ (slot-in w refl) (c .own) e x;
+    chained = keep-chained (j .cap) (j .stamp) a _ w w′ (slot-in w refl) (c .own) k (r .noded .pushing .fits) (omega (arith, a-in, r .noded .pushing .fits)) e (r .chained);
   }
 
   pub root-in : (w₁ : List ℕ) (o k₁ : ℕ) → Holds (mk (nodes k w) (c .variable .0) p q) (j .cap) w₁ o k₁ → o < memoBase
@@ -68,15 +75,16 @@ module _ (w : List ℕ) (j : Job) (k : ℕ) (c : Cut) (a p q : ℕ) (r : Settlin
       (mk-sound (j .n) (nodes k w) (r .noded .good) (j .n - suc (c .variable .0)) (c .variable .0) p q (omega (arith, r .noded .level)) (r .noded .low) (r .noded .high)) in
       omega (arith, s .stands .lies, length-nodes k₁ w₁, h .fits, r .noded .pushing .few)
 
-  pub made-settled : (w₁ : List ℕ) (o k₁ : ℕ) → Holds (mk (nodes k w) (c .variable .0) p q) (j .cap) w₁ o k₁ → Beyond (j .cap) w w₁ → length w₁ ≡ length w
+  pub made-settled : (w₁ : List ℕ) (o k₁ : ℕ) → Noded w w₁ (j .cap) k (c .variable .0) p q o k₁ → length w₁ ≡ length w
       → (w′ : List ℕ) → w′ ≡ cond (c .own) (set w₁ (3 * j .cap + a) (wordOf (j .stamp) o)) w₁ → Settled w w′ j k c a p q o k₁
-  made-settled w₁ o k₁ h b n w′ e = record {
+  made-settled w₁ o k₁ m n w′ e = record {
     holds = record {
-      is = h .is ∙ ap (λ (s : Table). (s, o)) (sym (keep-nodes (j .cap) (j .stamp) a _ w₁ w′ (slot-in w₁ n) (c .own) k₁ (h .fits) e));
-      fits = h .fits;
+      is = m .holds .is ∙ ap (λ (s : Table). (s, o)) (sym (keep-nodes (j .cap) (j .stamp) a _ w₁ w′ (slot-in w₁ n) (c .own) k₁ (m .holds .fits) e));
+      fits = m .holds .fits;
     };
     memo = λ x lt. elim (keep-memo (j .cap) (j .stamp) a (wordOf (j .stamp) o) w₁ w′ (slot-in w₁ n) (c .own) e x) [
-      | inl y ↦ inl (y ∙ b (3 * j .cap + x) (omega arith))
+      | inl y ↦ inl (y ∙ m .memo (3 * j .cap + x) (omega arith) (omega arith))
       | inr y ↦ inr y
     ];
+    chained = keep-chained (j .cap) (j .stamp) a _ w₁ w′ (slot-in w₁ n) (c .own) k₁ (m .holds .fits) (omega (arith, a-in, r .noded .pushing .fits)) e (m .chained);
   }

@@ -18,6 +18,7 @@ use Rattle.pool.specs.declared.Found.the-variants.{At, Nowhere}
 use Rattle.pool.specs.declared.Noted.{Noted}
 use Rattle.pool.specs.declared.Noted.the-variants.{Node as Got, Full}
 use Rattle.pool.specs.Pool.{Noding, Holds}
+use Rattle.chain.specs.Chain.{Chained}
 use Rattle.put.specs.declared.Step.{Step}
 use Rattle.put.specs.declared.Step.the-variants.{Done, Split}
 
@@ -71,13 +72,14 @@ pub record Ready (w : List ℕ) (j : Job) (l k a : ℕ) : Type 0 where
   pub term : j .term < 2
   pub stamp : j .stamp < stampLimit
   pub few : j .cap ≤ memoBase
-  pub long : 4 * j .cap ≤ length w
+  pub long : 6 * j .cap ≤ length w
   pub level : l ≤ j .n
   pub fits : k ≤ j .cap
   pub good : Good (j .n) (nodes k w)
   pub stands : Stands (nodes k w) l a
   pub known : Known w j k
   pub young : Young w (j .cap) (j .stamp)
+  pub chained : Chained w (j .cap) k
 
 -- ---- a node split
 pub record Parted (w : List ℕ) (j : Job) (l k a : ℕ) (off : Bool) (c : Cut) : Type 0 where
@@ -98,15 +100,17 @@ Splits w j l k a off (Split c) = Parted w j l k a off c
 -- ---- a node over two sides
 pub record Settling (w : List ℕ) (j : Job) (k : ℕ) (c : Cut) (a p q : ℕ) : Type 0 where
   pub noded : Noding w (j .n) (j .cap) k (c .variable .0) p q
-  pub long : 4 * j .cap ≤ length w
+  pub long : 6 * j .cap ≤ length w
   pub low : c .low .0 ≡ step (nodes k w) (c .variable .0) false a
   pub high : c .high .0 ≡ step (nodes k w) (c .variable .0) true a
   pub fits : Stands (nodes k w) (c .variable .0) a
   pub stamp : j .stamp < stampLimit
+  pub chained : Chained w (j .cap) k
 
 pub record Settled (w w′ : List ℕ) (j : Job) (k : ℕ) (c : Cut) (a p q r k′ : ℕ) : Type 0 where
   pub holds : Holds (mk (nodes k w) (c .variable .0) p q) (j .cap) w′ r k′
   pub memo : (x : ℕ) → x < j .cap → (word w′ (j .cap) x ≡ word w (j .cap) x) ⊎ ((c .own ≡ true) × (x ≡ a) × (word w′ (j .cap) x ≡ wordOf (j .stamp) r))
+  pub chained : Chained w′ (j .cap) k′
 
 abbrev pub Settles : List ℕ → List ℕ → Job → ℕ → Cut → ℕ → ℕ → ℕ → Noted → Type 0
 Settles w w′ j k c a p q (Got r k′) = Settled w w′ j k c a p q (r .0) k′
@@ -117,6 +121,7 @@ pub record Put (w w′ : List ℕ) (j : Job) (l k a : ℕ) (off : Bool) (r k′ 
   pub holds : Holds (walk (nodes k w) l (tree j (nodes k w) l a off)) (j .cap) w′ r k′
   pub known : Known w′ j k′
   pub young : Young w′ (j .cap) (j .stamp)
+  pub chained : Chained w′ (j .cap) k′
 
 abbrev pub Puts : List ℕ → List ℕ → Job → ℕ → ℕ → ℕ → Bool → Noted → Type 0
 Puts w w′ j l k a off (Got r k′) = Put w w′ j l k a off (r .0) k′

@@ -1,5 +1,5 @@
 // A clause set in a pool of nodes: the function of a node, but yes (of a DNF) or no (of a CNF) on the clause's cube. Inner.
-// In work: the pool, three words a node, from 0 on; the memo, one word a node, from 3 * cap on.
+// In work: the pool, three words a node, from 0 on; the memo, one word a node, from 3 * cap on; the pool's chains from 4 * cap on.
 ghost use mathlib.Core.Path.{_≡_};
 ghost use mathlib.Core.Bool.{cond, false};
 ghost use Prim.Native.Nat.{_+_, _*_, _<_, _≤_};
@@ -152,7 +152,7 @@ pub fn settle(
         keep(work, job.cap, job.stamp, cut.own, p, p);
         return Noted::Node(p, count);
     }
-    let made = pool::make_node(work, job.n, job.cap, count, cut.variable, low, high);
+    let made = chain::make_node(work, job.n, job.cap, count, cut.variable, low, high);
     let Noted::Node(r, more) = made else {
         return Noted::Full;
     };

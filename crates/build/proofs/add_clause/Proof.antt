@@ -3,7 +3,7 @@ use mathlib.Core.Bool.{false}
 use Prim.Native.Nat.{_+_, _-_}
 use Rattle.put.specs.Put.{Puts}
 use Rattle.build.specs.Build.{Compacts}
-use Rattle.build.proofs.AddLaws.{ready, add-full, add-small, compacting, add-fits, add-done, add-over}
+use Rattle.build.proofs.AddLaws.{ready, add-full, add-small, compacting, add-done, add-over}
 use borrow.Author.Needs.{needs}
 use Rattle.build.proofs.add_clause.Statement.{statement}
 use Rattle.build.proofs.add_clause.Tie as tie
@@ -11,7 +11,7 @@ use Rattle.build.proofs.add_clause.Tie as tie
 put-requires : tie.Need-put-requires
 put-requires c κs =
     let g = c .before .before .before in
-    ready _ _ _ _ _ _ _ (g .pre)
+    ready _ _ _ _ _ _ (g .pre)
 
 enum-known-noted : tie.Need-enum-known-noted
 enum-known-noted c = search needs
@@ -25,7 +25,7 @@ same-length c = search needs
 returns : tie.Need-returns
 returns c =
     let g = c .before .before .before .before .before .before .before .before in
-    add-full _ _ _ _ _ _ _ (g .pre)
+    add-full _ _ _ _ _ _ (g .pre)
     (subst (λ z. Puts (g .args .work .now) (c .before .before .before .before .put .last .0) (g .args .job) 0 (g .args .count) (g .args .p .0) false z) (c .enum-told .given .1) (c .before .before .before .before .put .ensures))
 
 same-length-2 : tie.Need-same-length-2
@@ -34,17 +34,17 @@ same-length-2 c = search needs
 returns-2 : tie.Need-returns-2
 returns-2 c =
     let g = c .before .before .before .before .before .before .before .before .before .before in
-    add-small _ _ _ _ _ _ _ (g .pre) _ _ _ (c .before .before .before .before .before .before .put .kept .0)
+    add-small _ _ _ _ _ _ (g .pre) _ _ _ (c .before .before .before .before .before .before .put .kept .0)
     (subst (λ z. Puts (g .args .work .now) (c .before .before .before .before .before .before .put .last .0) (g .args .job) 0 (g .args .count) (g .args .p .0) false z) (c .before .before .noted .given .1) (c .before .before .before .before .before .before .put .ensures))
     (c .if1 .taken)
 
-add-t19 : tie.Need-add-t19
-add-t19 c = search needs
+add-t17 : tie.Need-add-t17
+add-t17 c = search needs
 
 compact-requires : tie.Need-compact-requires
 compact-requires c κs =
     let g = c .before .before .before .before .before .before .before .before .before .before .before .before .before in
-    compacting _ _ _ _ _ _ _ (g .pre) _ _ _ (c .before .before .before .before .before .before .before .before .before .put .kept .0)
+    compacting _ _ _ _ _ _ (g .pre) _ _ _ (c .before .before .before .before .before .before .before .before .before .put .kept .0)
     (subst (λ z. Puts (g .args .work .now) (c .before .before .before .before .before .before .before .before .before .put .last .0) (g .args .job) 0 (g .args .count) (g .args .p .0) false z) (c .before .before .before .before .before .noted .given .1) (c .before .before .before .before .before .before .before .before .before .put .ensures))
     _ refl refl refl refl
 
@@ -63,18 +63,10 @@ same-length-4 c = search needs
 returns-3 : tie.Need-returns-3
 returns-3 c =
     let g = c .before .before .before .before .before .before .before .before .before .before .before .before .before .before .before .before .before .before .before .before in
-    add-over _ _ _ _ _ _ _ (g .pre) _ _ _ (c .before .before .before .before .before .before .before .before .before .before .before .before .before .before .before .before .put .kept .0)
+    add-over _ _ _ _ _ _ (g .pre) _ _ _ (c .before .before .before .before .before .before .before .before .before .before .before .before .before .before .before .before .put .kept .0)
     (subst (λ z. Puts (g .args .work .now) (c .before .before .before .before .before .before .before .before .before .before .before .before .before .before .before .before .put .last .0) (g .args .job) 0 (g .args .count) (g .args .p .0) false z) (c .before .before .before .before .before .before .before .before .before .before .before .before .noted .given .1) (c .before .before .before .before .before .before .before .before .before .before .before .before .before .before .before .before .put .ensures))
     (record { n = g .args .job .n; stamp = g .args .job .stamp + 1; cap = g .args .job .cap; room = g .args .room }) refl refl refl refl
     (subst (λ z. Compacts (c .before .before .before .before .before .before .before .before .before .before .before .before .before .before .before .before .put .last .0) (c .before .before .before .before .before .before .compact .last .0) (record { n = g .args .job .n; stamp = g .args .job .stamp + 1; cap = g .args .job .cap; room = g .args .room }) (c .before .before .before .before .before .before .before .before .before .before .before .before .noted .given .0 .1 .0) (c .before .before .before .before .before .before .before .before .before .before .before .before .noted .given .0 .0 .0) z) (c .enum-told2 .given .1) (c .before .before .before .before .before .before .compact .ensures))
-
-limit-after-requires : tie.Need-limit-after-requires
-limit-after-requires c κs =
-    let g = c .before .before .before .before .before .before .before .before .before .before .before .before .before .before .before .before .before .before .before .before .before in
-    add-fits _ _ _ _ _ _ _ (g .pre) _ _ _ (c .before .before .before .before .before .before .before .before .before .before .before .before .before .before .before .before .before .put .kept .0)
-    (subst (λ z. Puts (g .args .work .now) (c .before .before .before .before .before .before .before .before .before .before .before .before .before .before .before .before .before .put .last .0) (g .args .job) 0 (g .args .count) (g .args .p .0) false z) (c .before .before .before .before .before .before .before .before .before .before .before .before .before .noted .given .1) (c .before .before .before .before .before .before .before .before .before .before .before .before .before .before .before .before .before .put .ensures))
-    (record { n = g .args .job .n; stamp = g .args .job .stamp + 1; cap = g .args .job .cap; room = g .args .room }) refl refl refl refl _ _ _
-    (subst (λ z. Compacts (c .before .before .before .before .before .before .before .before .before .before .before .before .before .before .before .before .before .put .last .0) (c .before .before .before .before .before .before .before .compact .last .0) (record { n = g .args .job .n; stamp = g .args .job .stamp + 1; cap = g .args .job .cap; room = g .args .room }) (c .before .before .before .before .before .before .before .before .before .before .before .before .before .noted .given .0 .1 .0) (c .before .before .before .before .before .before .before .before .before .before .before .before .before .noted .given .0 .0 .0) z) (c .before .own .given .1) (c .before .before .before .before .before .before .before .compact .ensures))
 
 same-length-5 : tie.Need-same-length-5
 same-length-5 c = search needs
@@ -84,11 +76,11 @@ same-length-6 c = search needs
 
 returns-4 : tie.Need-returns-4
 returns-4 c =
-    let g = c .before .before .before .before .before .before .before .before .before .before .before .before .before .before .before .before .before .before .before .before .before .before in
-    add-done _ _ _ _ _ _ _ (g .pre) _ _ _ (c .before .before .before .before .before .before .before .before .before .before .before .before .before .before .before .before .before .before .put .kept .0)
-    (subst (λ z. Puts (g .args .work .now) (c .before .before .before .before .before .before .before .before .before .before .before .before .before .before .before .before .before .before .put .last .0) (g .args .job) 0 (g .args .count) (g .args .p .0) false z) (c .before .before .before .before .before .before .before .before .before .before .before .before .before .before .noted .given .1) (c .before .before .before .before .before .before .before .before .before .before .before .before .before .before .before .before .before .before .put .ensures))
-    (record { n = g .args .job .n; stamp = g .args .job .stamp + 1; cap = g .args .job .cap; room = g .args .room }) refl refl refl refl _ _ _ _ (c .limit-after .ensures)
-    (subst (λ z. Compacts (c .before .before .before .before .before .before .before .before .before .before .before .before .before .before .before .before .before .before .put .last .0) (c .before .before .before .before .before .before .before .before .compact .last .0) (record { n = g .args .job .n; stamp = g .args .job .stamp + 1; cap = g .args .job .cap; room = g .args .room }) (c .before .before .before .before .before .before .before .before .before .before .before .before .before .before .noted .given .0 .1 .0) (c .before .before .before .before .before .before .before .before .before .before .before .before .before .before .noted .given .0 .0 .0) z) (c .before .before .own .given .1) (c .before .before .before .before .before .before .before .before .compact .ensures))
+    let g = c .before .before .before .before .before .before .before .before .before .before .before .before .before .before .before .before .before .before .before .before .before in
+    add-done _ _ _ _ _ _ (g .pre) _ _ _ (c .before .before .before .before .before .before .before .before .before .before .before .before .before .before .before .before .before .put .kept .0)
+    (subst (λ z. Puts (g .args .work .now) (c .before .before .before .before .before .before .before .before .before .before .before .before .before .before .before .before .before .put .last .0) (g .args .job) 0 (g .args .count) (g .args .p .0) false z) (c .before .before .before .before .before .before .before .before .before .before .before .before .before .noted .given .1) (c .before .before .before .before .before .before .before .before .before .before .before .before .before .before .before .before .before .put .ensures))
+    (record { n = g .args .job .n; stamp = g .args .job .stamp + 1; cap = g .args .job .cap; room = g .args .room }) refl refl refl refl _ _ _
+    (subst (λ z. Compacts (c .before .before .before .before .before .before .before .before .before .before .before .before .before .before .before .before .before .put .last .0) (c .before .before .before .before .before .before .before .compact .last .0) (record { n = g .args .job .n; stamp = g .args .job .stamp + 1; cap = g .args .job .cap; room = g .args .room }) (c .before .before .before .before .before .before .before .before .before .before .before .before .before .noted .given .0 .1 .0) (c .before .before .before .before .before .before .before .before .before .before .before .before .before .noted .given .0 .0 .0) z) (c .before .own .given .1) (c .before .before .before .before .before .before .before .compact .ensures))
 
 pub add-clause-spec : {M : Type 1} → statement M
 add-clause-spec =
@@ -101,14 +93,13 @@ add-clause-spec =
     returns
     same-length-2
     returns-2
-    add-t19
+    add-t17
     compact-requires
     enum-known-own
     enum-told-2
     same-length-3
     same-length-4
     returns-3
-    limit-after-requires
     same-length-5
     same-length-6
     returns-4)

@@ -10,10 +10,10 @@ use Rattle.build.proofs.build.Statement.{statement}
 use Rattle.build.proofs.build.Tie as tie
 
 abbrev Inv-loop : tie.InvT-loop
-Inv-loop n list cases k term room out₀ work₀ cap root₀ held₀ limit₀ i₀ out work root held limit i = (i ≤ k) × (length out ≡ length out₀) × (length work ≡ length work₀) × (limit ≤ room) × Going n (entryAt cases n list) term room work (root .0) held i
+Inv-loop n list cases k term room out₀ work₀ cap root₀ held₀ i₀ out work root held i = (i ≤ k) × (length out ≡ length out₀) × (length work ≡ length work₀) × Going n (entryAt cases n list) term room work (root .0) held i
 
 abbrev μ-loop : tie.MeasureT-loop
-μ-loop n list cases k term room out₀ work₀ cap root₀ held₀ limit₀ i₀ out work root held limit i = k - i
+μ-loop n list cases k term room out₀ work₀ cap root₀ held₀ i₀ out work root held i = k - i
 
 mul-cap : tie.Need-mul-cap Inv-loop μ-loop
 mul-cap c = search needs
@@ -40,35 +40,32 @@ put-constants-requires c κs =
     let g = c .before .before .before .before .before .before .before .before in
     omega (arith, g .pre .0 .long, g .pre .0 .some, c .before .before .before .clear .kept .0)
 
-sub-t31 : tie.Need-sub-t31 Inv-loop μ-loop
-sub-t31 c =
+sub-t29 : tie.Need-sub-t29 Inv-loop μ-loop
+sub-t29 c =
     let g = c .before .before .before .before .before .before .before .before .before .before .before in
     omega (arith, g .pre .0 .polar)
 
-limit-after-requires : tie.Need-limit-after-requires Inv-loop μ-loop
-limit-after-requires c κs = omega arith
-
 loop-holds : tie.Need-loop-holds Inv-loop μ-loop
 loop-holds c =
-    let g = c .before .before .before .before .before .before .before .before .before .before .before .before in
-    (omega arith, refl, refl, c .limit-after .ensures, starts _ _ _ _ _ _ _ (g .pre .0) (c .before .before .before .before .before .before .before .clear .last .0) (c .before .before .before .put-constants .last .0) (c .before .before .before .before .before .before .before .clear .ensures) (c .before .before .before .put-constants .ensures .0) (c .before .before .before .put-constants .ensures .1))
+    let g = c .before .before .before .before .before .before .before .before .before .before .before in
+    (omega arith, refl, refl, starts _ _ _ _ _ _ _ (g .pre .0) (c .before .before .before .before .before .before .clear .last .0) (c .before .before .put-constants .last .0) (c .before .before .before .before .before .before .clear .ensures) (c .before .before .put-constants .ensures .0) (c .before .before .put-constants .ensures .1))
 
 clause-at-requires : tie.Need-clause-at-requires Inv-loop μ-loop
 clause-at-requires c κs =
-    let g = c .before .before .before .before .before .before .before .before .before .before .before .before .before .before in
-    let g = c .before .before .before .before .before .before .before .before .before .before .before .before .before .before in
+    let g = c .before .before .before .before .before .before .before .before .before .before .before .before .before in
+    let g = c .before .before .before .before .before .before .before .before .before .before .before .before .before in
     (g .pre .0 .marks, given-within (g .args .cases) (g .args .count) (c .before .loop .i) (g .args .list .now) (g .pre .1) (search needs))
 
-mul-t33 : tie.Need-mul-t33 Inv-loop μ-loop
-mul-t33 c = search needs
+mul-t31 : tie.Need-mul-t31 Inv-loop μ-loop
+mul-t31 c = search needs
 
-add-t34 : tie.Need-add-t34 Inv-loop μ-loop
-add-t34 c = search needs
+add-t32 : tie.Need-add-t32 Inv-loop μ-loop
+add-t32 c = search needs
 
 add-clause-requires : tie.Need-add-clause-requires Inv-loop μ-loop
 add-clause-requires c κs =
-    let g = c .before .before .before .before .before .before .before .before .before .before .before .before .before .before .before .before .before in
-    adding _ _ _ _ _ _ _ (g .pre .0) (c .before .before .before .before .loop .out) (c .before .before .before .before .loop .work) (c .before .before .before .before .loop .root .0) (c .before .before .before .before .loop .held) (c .before .before .before .before .loop .i) (c .before .before .before .before .loop .inv .4) (c .before .before .clause-at .result .fixed) (c .before .before .clause-at .result .values) (c .before .before .clause-at .ensures .0) (c .before .before .clause-at .ensures .1) _ (c .before .before .before .before .loop .inv .3) (search needs) (c .before .before .before .before .loop .inv .1) (c .before .before .before .before .loop .inv .2 ∙ c .before .before .before .before .before .before .before .before .put-constants .kept .0 ∙ c .before .before .before .before .before .before .before .before .before .before .before .before .clear .kept .0)
+    let g = c .before .before .before .before .before .before .before .before .before .before .before .before .before .before .before .before in
+    adding _ _ _ _ _ _ _ (g .pre .0) (c .before .before .before .before .loop .out) (c .before .before .before .before .loop .work) (c .before .before .before .before .loop .root .0) (c .before .before .before .before .loop .held) (c .before .before .before .before .loop .i) (c .before .before .before .before .loop .inv .3) (c .before .before .clause-at .result .fixed) (c .before .before .clause-at .result .values) (c .before .before .clause-at .ensures .0) (c .before .before .clause-at .ensures .1) (search needs) (c .before .before .before .before .loop .inv .1) (c .before .before .before .before .loop .inv .2 ∙ c .before .before .before .before .before .before .before .put-constants .kept .0 ∙ c .before .before .before .before .before .before .before .before .before .before .before .clear .kept .0)
 
 enum-known-grown : tie.Need-enum-known-grown Inv-loop μ-loop
 enum-known-grown c = search needs
@@ -76,11 +73,11 @@ enum-known-grown c = search needs
 enum-told : tie.Need-enum-told Inv-loop μ-loop
 enum-told c = search needs
 
-add-t39 : tie.Need-add-t39 Inv-loop μ-loop
-add-t39 c = search needs
+add-t37 : tie.Need-add-t37 Inv-loop μ-loop
+add-t37 c = search needs
 
-cast-t40 : tie.Need-cast-t40 Inv-loop μ-loop
-cast-t40 c = search needs
+cast-t38 : tie.Need-cast-t38 Inv-loop μ-loop
+cast-t38 c = search needs
 
 same-length : tie.Need-same-length Inv-loop μ-loop
 same-length c = search needs
@@ -90,13 +87,13 @@ same-length-2 c = search needs
 
 returns : tie.Need-returns Inv-loop μ-loop
 returns c =
-    let g = c .before .before .before .before .before .before .before .before .before .before .before .before .before .before .before .before .before .before .before .before .before .before .before .before in
-    refused _ _ _ _ _ _ _ (g .pre .0) (c .before .before .before .before .before .before .before .before .before .before .before .loop .out) (c .before .before .before .before .before .before .before .before .before .before .before .loop .work) (c .before .before .before .before .before .before .before .before .before .before .before .loop .root .0) (c .before .before .before .before .before .before .before .before .before .before .before .loop .held) (c .before .before .before .before .before .before .before .before .before .before .before .loop .i) (c .before .before .before .before .before .before .before .before .before .before .before .loop .inv .4) (c .before .before .before .before .before .before .before .before .before .clause-at .result .fixed) (c .before .before .before .before .before .before .before .before .before .clause-at .result .values) (c .before .before .before .before .before .before .before .before .before .clause-at .ensures .0) (c .before .before .before .before .before .before .before .before .before .clause-at .ensures .1) (search needs)
+    let g = c .before .before .before .before .before .before .before .before .before .before .before .before .before .before .before .before .before .before .before .before .before .before .before in
+    refused _ _ _ _ _ _ _ (g .pre .0) (c .before .before .before .before .before .before .before .before .before .before .before .loop .out) (c .before .before .before .before .before .before .before .before .before .before .before .loop .work) (c .before .before .before .before .before .before .before .before .before .before .before .loop .root .0) (c .before .before .before .before .before .before .before .before .before .before .before .loop .held) (c .before .before .before .before .before .before .before .before .before .before .before .loop .i) (c .before .before .before .before .before .before .before .before .before .before .before .loop .inv .3) (c .before .before .before .before .before .before .before .before .before .clause-at .result .fixed) (c .before .before .before .before .before .before .before .before .before .clause-at .result .values) (c .before .before .before .before .before .before .before .before .before .clause-at .ensures .0) (c .before .before .before .before .before .before .before .before .before .clause-at .ensures .1) (search needs)
     (subst (λ z. Adds (c .before .before .before .before .before .before .before .before .before .before .before .loop .work) (c .before .before .before .before .before .before .add-clause .last .0) (record { n = g .args .n; fixed = c .before .before .before .before .before .before .before .before .before .clause-at .result .fixed; values = c .before .before .before .before .before .before .before .before .before .clause-at .result .values; term = g .args .term; stamp = 2 * c .before .before .before .before .before .before .before .before .before .before .before .loop .i + 1; cap = 2 * g .args .room }) (g .args .room) (c .before .before .before .before .before .before .before .before .before .before .before .loop .held) (c .before .before .before .before .before .before .before .before .before .before .before .loop .root .0) z) (c .enum-told .given .1) (c .before .before .before .before .before .before .add-clause .ensures))
 
 add-i : tie.Need-add-i Inv-loop μ-loop
 add-i c =
-    let g = c .before .before .before .before .before .before .before .before .before .before .before .before .before .before .before .before .before .before .before .before .before .before .before .before .before in
+    let g = c .before .before .before .before .before .before .before .before .before .before .before .before .before .before .before .before .before .before .before .before .before .before .before .before in
     record { fits = omega (arith, c .before .before .before .before .before .before .before .before .before .before .before .loop-test .taken, g .pre .0 .count) }
 
 loop-less : tie.Need-loop-less Inv-loop μ-loop
@@ -104,23 +101,23 @@ loop-less c = search needs
 
 loop-again : tie.Need-loop-again Inv-loop μ-loop
 loop-again c =
-    let g = c .before .before .before .before .before .before .before .before .before .before .before .before .before .before .before .before .before .before .before .before .before .before .before .before .before in
+    let g = c .before .before .before .before .before .before .before .before .before .before .before .before .before .before .before .before .before .before .before .before .before .before .before .before in
     let u = (subst (λ z. Adds (c .before .before .before .before .before .before .before .before .before .before .before .before .loop .work) (c .before .before .before .before .before .before .before .add-clause .last .0) (record { n = g .args .n; fixed = c .before .before .before .before .before .before .before .before .before .before .clause-at .result .fixed; values = c .before .before .before .before .before .before .before .before .before .before .clause-at .result .values; term = g .args .term; stamp = 2 * c .before .before .before .before .before .before .before .before .before .before .before .before .loop .i + 1; cap = 2 * g .args .room }) (g .args .room) (c .before .before .before .before .before .before .before .before .before .before .before .before .loop .held) (c .before .before .before .before .before .before .before .before .before .before .before .before .loop .root .0) z) (c .before .grown .given .1) (c .before .before .before .before .before .before .before .add-clause .ensures)) in
-    (search needs, c .before .before .before .before .before .before .before .add-clause .kept .1 .0 ∙ c .before .before .before .before .before .before .before .before .before .before .before .before .loop .inv .1, c .before .before .before .before .before .before .before .add-clause .kept .0 ∙ c .before .before .before .before .before .before .before .before .before .before .before .before .loop .inv .2, u .within, goes-on _ _ _ _ _ _ _ (g .pre .0) (c .before .before .before .before .before .before .before .before .before .before .before .before .loop .out) (c .before .before .before .before .before .before .before .before .before .before .before .before .loop .work) (c .before .before .before .before .before .before .before .before .before .before .before .before .loop .root .0) (c .before .before .before .before .before .before .before .before .before .before .before .before .loop .held) (c .before .before .before .before .before .before .before .before .before .before .before .before .loop .i) (c .before .before .before .before .before .before .before .before .before .before .before .before .loop .inv .4) (c .before .before .before .before .before .before .before .before .before .before .clause-at .result .fixed) (c .before .before .before .before .before .before .before .before .before .before .clause-at .result .values) (c .before .before .before .before .before .before .before .before .before .before .clause-at .ensures .0) (c .before .before .before .before .before .before .before .before .before .before .clause-at .ensures .1) (c .before .before .before .before .before .before .before .add-clause .last .0) _ _ _ u)
+    (search needs, c .before .before .before .before .before .before .before .add-clause .kept .1 .0 ∙ c .before .before .before .before .before .before .before .before .before .before .before .before .loop .inv .1, c .before .before .before .before .before .before .before .add-clause .kept .0 ∙ c .before .before .before .before .before .before .before .before .before .before .before .before .loop .inv .2, goes-on _ _ _ _ _ _ _ (g .pre .0) (c .before .before .before .before .before .before .before .before .before .before .before .before .loop .out) (c .before .before .before .before .before .before .before .before .before .before .before .before .loop .work) (c .before .before .before .before .before .before .before .before .before .before .before .before .loop .root .0) (c .before .before .before .before .before .before .before .before .before .before .before .before .loop .held) (c .before .before .before .before .before .before .before .before .before .before .before .before .loop .i) (c .before .before .before .before .before .before .before .before .before .before .before .before .loop .inv .3) (c .before .before .before .before .before .before .before .before .before .before .clause-at .result .fixed) (c .before .before .before .before .before .before .before .before .before .before .clause-at .result .values) (c .before .before .before .before .before .before .before .before .before .before .clause-at .ensures .0) (c .before .before .before .before .before .before .before .before .before .before .clause-at .ensures .1) (c .before .before .before .before .before .before .before .add-clause .last .0) _ _ u)
 
-mul-t31 : tie.Need-mul-t31 Inv-loop μ-loop
-mul-t31 c = search needs
+mul-t29 : tie.Need-mul-t29 Inv-loop μ-loop
+mul-t29 c = search needs
 
-add-t41 : tie.Need-add-t41 Inv-loop μ-loop
-add-t41 c = search needs
+add-t39 : tie.Need-add-t39 Inv-loop μ-loop
+add-t39 c = search needs
 
 export-requires : tie.Need-export-requires Inv-loop μ-loop
 export-requires c κs =
-    let g = c .before .before .before .before .before .before .before .before .before .before .before .before .before .before .before .before in
-    exporting _ _ _ _ _ _ _ (g .pre .0) (c .before .before .before .loop .out) (c .before .before .before .loop .work) (c .before .before .before .loop .root .0) (c .before .before .before .loop .held) (c .before .before .before .loop .i) (c .before .before .before .loop .inv .4) (search needs) (c .before .before .before .loop .inv .1) (c .before .before .before .loop .inv .2 ∙ c .before .before .before .before .before .before .before .put-constants .kept .0 ∙ c .before .before .before .before .before .before .before .before .before .before .before .clear .kept .0)
+    let g = c .before .before .before .before .before .before .before .before .before .before .before .before .before .before .before in
+    exporting _ _ _ _ _ _ _ (g .pre .0) (c .before .before .before .loop .out) (c .before .before .before .loop .work) (c .before .before .before .loop .root .0) (c .before .before .before .loop .held) (c .before .before .before .loop .i) (c .before .before .before .loop .inv .3) (search needs) (c .before .before .before .loop .inv .1) (c .before .before .before .loop .inv .2 ∙ c .before .before .before .before .before .before .put-constants .kept .0 ∙ c .before .before .before .before .before .before .before .before .before .before .clear .kept .0)
 
-cast-t28 : tie.Need-cast-t28 Inv-loop μ-loop
-cast-t28 c = search needs
+cast-t26 : tie.Need-cast-t26 Inv-loop μ-loop
+cast-t26 c = search needs
 
 same-length-3 : tie.Need-same-length-3 Inv-loop μ-loop
 same-length-3 c = search needs
@@ -130,8 +127,8 @@ same-length-4 c = search needs
 
 returns-2 : tie.Need-returns-2 Inv-loop μ-loop
 returns-2 c =
-    let g = c .before .before .before .before .before .before .before .before .before .before .before .before .before .before .before .before .before .before .before .before .before in
-    counted _ _ _ _ _ _ _ (g .pre .0) (c .before .before .before .before .before .before .before .before .loop .out) (c .before .before .before .before .before .before .before .before .loop .work) (c .before .before .before .before .before .before .before .before .loop .root .0) (c .before .before .before .before .before .before .before .before .loop .held) (c .before .before .before .before .before .before .before .before .loop .i) (c .before .before .before .before .before .before .before .before .loop .inv .4) (search needs) (c .before .before .before .before .export .last .1 .0) (c .before .before .before .before .export .result) (c .before .before .before .before .export .ensures)
+    let g = c .before .before .before .before .before .before .before .before .before .before .before .before .before .before .before .before .before .before .before .before in
+    counted _ _ _ _ _ _ _ (g .pre .0) (c .before .before .before .before .before .before .before .before .loop .out) (c .before .before .before .before .before .before .before .before .loop .work) (c .before .before .before .before .before .before .before .before .loop .root .0) (c .before .before .before .before .before .before .before .before .loop .held) (c .before .before .before .before .before .before .before .before .loop .i) (c .before .before .before .before .before .before .before .before .loop .inv .3) (search needs) (c .before .before .before .before .export .last .1 .0) (c .before .before .before .before .export .result) (c .before .before .before .before .export .ensures)
 
 pub build-spec : {M : Type 1} → statement M
 build-spec =
@@ -146,27 +143,26 @@ build-spec =
     mul-clear-2
     clear-requires
     put-constants-requires
-    sub-t31
-    limit-after-requires
+    sub-t29
     loop-holds
     clause-at-requires
-    mul-t33
-    add-t34
+    mul-t31
+    add-t32
     add-clause-requires
     enum-known-grown
     enum-told
-    add-t39
-    cast-t40
+    add-t37
+    cast-t38
     same-length
     same-length-2
     returns
     add-i
     loop-less
     loop-again
-    mul-t31
-    add-t41
+    mul-t29
+    add-t39
     export-requires
-    cast-t28
+    cast-t26
     same-length-3
     same-length-4
     returns-2)

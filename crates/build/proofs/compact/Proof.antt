@@ -2,7 +2,7 @@ use mathlib.Core.Path.{subst}
 use Prim.Native.Nat.{_-_}
 use native.Mathlib.Omega.{arith}
 use Rattle.build.specs.Build.{Carries}
-use Rattle.build.proofs.AddLaws.{carrying, compact-full, compact-done}
+use Rattle.build.proofs.AddLaws.{carrying, compact-full, m-two, compact-done}
 use borrow.Author.Needs.{needs}
 use Rattle.build.proofs.compact.Statement.{statement}
 use Rattle.build.proofs.compact.Tie as tie
@@ -39,6 +39,12 @@ copy-nodes-requires c κs =
     let u = subst (λ z. Carries (g .args .work .now) (c .before .before .before .before .before .before .before .before .before .carry .last .0) (c .before .before .before .before .before .before .before .before .before .before .before .before .before .before .put-constants .last .0) (c .before .before .before .before .before .before .before .before .before .carry .last .1 .0) (g .args .goal) (g .args .count) 2 (g .args .p .0) z) (c .before .before .before .noted .given .1) (c .before .before .before .before .before .before .before .before .before .carry .ensures) in
     (omega (arith, u .holds .fits, g .pre .cap, g .pre .long, c .before .before .before .before .before .before .before .before .before .carry .kept .0), omega (arith, u .holds .fits, g .pre .wide, c .before .before .before .before .before .before .before .before .before .carry .kept .1 .0, c .before .before .before .before .before .before .before .before .before .before .before .before .before .before .put-constants .kept .0))
 
+index-nodes-requires : tie.Need-index-nodes-requires
+index-nodes-requires c κs =
+    let g = c .before .before .before .before .before .before .before .before .before .before .before .before .before .before .before .before .before .before .before .before .before .before in
+    let u = subst (λ z. Carries (g .args .work .now) (c .before .before .before .before .before .before .before .before .before .before .before .before .before .carry .last .0) (c .before .before .before .before .before .before .before .before .before .before .before .before .before .before .before .before .before .before .put-constants .last .0) (c .before .before .before .before .before .before .before .before .before .before .before .before .before .carry .last .1 .0) (g .args .goal) (g .args .count) 2 (g .args .p .0) z) (c .before .before .before .before .before .before .before .noted .given .1) (c .before .before .before .before .before .before .before .before .before .before .before .before .before .carry .ensures) in
+    (omega (arith, g .pre .long, c .before .before .before .copy-nodes .kept .0, c .before .before .before .before .before .before .before .before .before .before .before .before .before .carry .kept .0), m-two _ _ _ _ _ (g .pre) (c .before .before .before .before .before .before .before .before .before .before .before .before .before .before .before .before .before .before .put-constants .last .0) (c .before .before .before .before .before .before .before .before .before .before .before .before .before .before .before .before .before .before .put-constants .ensures .0) (c .before .before .before .before .before .before .before .before .before .before .before .before .before .before .before .before .before .before .put-constants .kept .0) _ _ _ _ u, omega (arith, u .holds .fits, g .pre .cap))
+
 same-length-3 : tie.Need-same-length-3
 same-length-3 c = search needs
 
@@ -47,10 +53,10 @@ same-length-4 c = search needs
 
 returns-2 : tie.Need-returns-2
 returns-2 c =
-    let g = c .before .before .before .before .before .before .before .before .before .before .before .before .before .before .before .before .before .before .before .before .before in
-    compact-done _ _ _ _ _ (g .pre) (c .before .before .before .before .before .before .before .before .before .before .before .before .before .before .before .before .before .put-constants .last .0) (c .before .before .before .before .before .before .before .before .before .before .before .before .before .before .before .before .before .put-constants .ensures .0) (c .before .before .before .before .before .before .before .before .before .before .before .before .before .before .before .before .before .put-constants .kept .0) _ _ (c .before .before .before .before .before .before .noted .given .0 .0 .0) (c .before .before .before .before .before .before .noted .given .0 .1 .0)
-    (subst (λ z. Carries (g .args .work .now) (c .before .before .before .before .before .before .before .before .before .before .before .before .carry .last .0) (c .before .before .before .before .before .before .before .before .before .before .before .before .before .before .before .before .before .put-constants .last .0) (c .before .before .before .before .before .before .before .before .before .before .before .before .carry .last .1 .0) (g .args .goal) (g .args .count) 2 (g .args .p .0) z) (c .before .before .before .before .before .before .noted .given .1) (c .before .before .before .before .before .before .before .before .before .before .before .before .carry .ensures))
-    (c .before .before .copy-nodes .last .0) (c .before .before .copy-nodes .ensures)
+    let g = c .before .before .before .before .before .before .before .before .before .before .before .before .before .before .before .before .before .before .before .before .before .before .before .before .before in
+    compact-done _ _ _ _ _ (g .pre) (c .before .before .before .before .before .before .before .before .before .before .before .before .before .before .before .before .before .before .before .before .before .put-constants .last .0) (c .before .before .before .before .before .before .before .before .before .before .before .before .before .before .before .before .before .before .before .before .before .put-constants .ensures .0) (c .before .before .before .before .before .before .before .before .before .before .before .before .before .before .before .before .before .before .before .before .before .put-constants .kept .0) _ _ (c .before .before .before .before .before .before .before .before .before .before .noted .given .0 .0 .0) (c .before .before .before .before .before .before .before .before .before .before .noted .given .0 .1 .0)
+    (subst (λ z. Carries (g .args .work .now) (c .before .before .before .before .before .before .before .before .before .before .before .before .before .before .before .before .carry .last .0) (c .before .before .before .before .before .before .before .before .before .before .before .before .before .before .before .before .before .before .before .before .before .put-constants .last .0) (c .before .before .before .before .before .before .before .before .before .before .before .before .before .before .before .before .carry .last .1 .0) (g .args .goal) (g .args .count) 2 (g .args .p .0) z) (c .before .before .before .before .before .before .before .before .before .before .noted .given .1) (c .before .before .before .before .before .before .before .before .before .before .before .before .before .before .before .before .carry .ensures))
+    _ _ (c .before .before .before .before .before .before .copy-nodes .ensures) (c .before .before .index-nodes .ensures)
 
 pub compact-spec : {M : Type 1} → statement M
 compact-spec =
@@ -64,6 +70,7 @@ compact-spec =
     same-length-2
     returns
     copy-nodes-requires
+    index-nodes-requires
     same-length-3
     same-length-4
     returns-2)

@@ -1,9 +1,7 @@
 use mathlib.Core.Path.{refl, subst}
 use Prim.Native.Nat.{_-_}
 use borrow.Author.Tests.{eqb-true}
-use Rattle.theory.specs.Table.{mk}
-use Rattle.theory.specs.Words.{nodes}
-use Rattle.pool.specs.Pool.{Answers}
+use Rattle.chain.specs.Chain.{Notes}
 use Rattle.put.proofs.SettleLaws.{slot-in, a-small, same-settled, root-in, made-settled}
 use borrow.Author.Needs.{needs}
 use Rattle.put.proofs.settle.Statement.{statement}
@@ -23,7 +21,9 @@ returns c =
     same-settled _ _ _ _ _ _ _ (g .pre) (c .before .before .before .before .before .before .before .if1 .taken) (eqb-true _ _ (c .before .before .before .before .if2 .taken)) _ (c .before .before .keep .ensures)
 
 make-node-requires : tie.Need-make-node-requires
-make-node-requires c κs = search needs
+make-node-requires c κs =
+    let g = c .before .before .before .before .before in
+    (g .pre .noded, g .pre .long, g .pre .chained)
 
 enum-known-made : tie.Need-enum-known-made
 enum-known-made c = search needs
@@ -37,13 +37,13 @@ same-length-2 c = search needs
 returns-2 : tie.Need-returns-2
 returns-2 c =
     let g = c .before .before .before .before .before .before .before .before .before .before in
-    subst (λ z. Answers (mk (nodes (g .args .count) (g .args .work .now)) (g .args .cut .variable .0) (g .args .low .0) (g .args .high .0)) (g .args .job .cap) (c .before .before .before .before .make-node .last .0) z) (c .enum-told .given .1) (c .before .before .before .before .make-node .ensures .0)
+    subst (λ z. Notes (g .args .work .now) (c .before .before .before .before .make-node .last .0) (g .args .job .cap) (g .args .count) (g .args .cut .variable .0) (g .args .low .0) (g .args .high .0) z) (c .enum-told .given .1) (c .before .before .before .before .make-node .ensures)
 
 keep-requires-2 : tie.Need-keep-requires-2
 keep-requires-2 c κs =
     let g = c .before .before .before .before .before .before .before .before .before .before .before .before in
-    let h = subst (λ z. Answers (mk (nodes (g .args .count) (g .args .work .now)) (g .args .cut .variable .0) (g .args .low .0) (g .args .high .0)) (g .args .job .cap) (c .before .before .before .before .before .before .make-node .last .0) z) (c .before .before .made .given .1) (c .before .before .before .before .before .before .make-node .ensures .0) in
-    (slot-in _ _ _ _ _ _ _ (g .pre) (c .before .before .before .before .before .before .make-node .last .0) (c .before .before .before .before .before .before .make-node .kept .0), g .pre .noded .pushing .few, g .pre .stamp, root-in _ _ _ _ _ _ _ (g .pre) _ _ _ h)
+    let h = subst (λ z. Notes (g .args .work .now) (c .before .before .before .before .before .before .make-node .last .0) (g .args .job .cap) (g .args .count) (g .args .cut .variable .0) (g .args .low .0) (g .args .high .0) z) (c .before .before .made .given .1) (c .before .before .before .before .before .before .make-node .ensures) in
+    (slot-in _ _ _ _ _ _ _ (g .pre) (c .before .before .before .before .before .before .make-node .last .0) (c .before .before .before .before .before .before .make-node .kept .0), g .pre .noded .pushing .few, g .pre .stamp, root-in _ _ _ _ _ _ _ (g .pre) _ _ _ (h .holds))
 
 same-length-3 : tie.Need-same-length-3
 same-length-3 c = search needs
@@ -51,8 +51,8 @@ same-length-3 c = search needs
 returns-3 : tie.Need-returns-3
 returns-3 c =
     let g = c .before .before .before .before .before .before .before .before .before .before .before .before .before .before .before in
-    let h = subst (λ z. Answers (mk (nodes (g .args .count) (g .args .work .now)) (g .args .cut .variable .0) (g .args .low .0) (g .args .high .0)) (g .args .job .cap) (c .before .before .before .before .before .before .before .before .before .make-node .last .0) z) (c .before .before .before .before .before .made .given .1) (c .before .before .before .before .before .before .before .before .before .make-node .ensures .0) in
-    made-settled _ _ _ _ _ _ _ (g .pre) (c .before .before .before .before .before .before .before .before .before .make-node .last .0) (c .before .before .before .before .before .made .given .0 .0 .0) (c .before .before .before .before .before .made .given .0 .1 .0) h (c .before .before .before .before .before .before .before .before .before .make-node .ensures .1) (c .before .before .before .before .before .before .before .before .before .make-node .kept .0) _ (c .before .before .keep2 .ensures)
+    let h = subst (λ z. Notes (g .args .work .now) (c .before .before .before .before .before .before .before .before .before .make-node .last .0) (g .args .job .cap) (g .args .count) (g .args .cut .variable .0) (g .args .low .0) (g .args .high .0) z) (c .before .before .before .before .before .made .given .1) (c .before .before .before .before .before .before .before .before .before .make-node .ensures) in
+    made-settled _ _ _ _ _ _ _ (g .pre) (c .before .before .before .before .before .before .before .before .before .make-node .last .0) (c .before .before .before .before .before .made .given .0 .0 .0) (c .before .before .before .before .before .made .given .0 .1 .0) h (c .before .before .before .before .before .before .before .before .before .make-node .kept .0) _ (c .before .before .keep2 .ensures)
 
 pub settle-spec : {M : Type 1} → statement M
 settle-spec =
