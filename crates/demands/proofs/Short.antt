@@ -1,8 +1,8 @@
 -- The short list, over its entry's own verdict: it says yes exactly where the table does; past inspection it is refused for nodes exactly if a table that the rule calls
 -- for is over room, and for clauses exactly if the output does not hold it otherwise. Its promise leaves one possible answer.
-use mathlib.Core.Path.{_≡_, refl, sym, ap, ap₂, _∙_}
+use mathlib.Core.Path.{_≡_, ap, _∙_}
 use mathlib.Core.Bool.{true, false, cond, not}
-use mathlib.Core.List.{List, [], _∷_, append-nil}
+use mathlib.Core.List.{List, [], _∷_}
 use Prim.Native.Nat.{ℕ, _-_, _≤_, _<_}
 use lib.Dec.{ltb}
 use lib.ListN.{length}
@@ -10,31 +10,20 @@ use borrow.Author.Tests.{lt-ltb, le-ltb}
 use Rattle.theory.specs.Tree.{Deep}
 use Rattle.theory.specs.Table.{meaning}
 use Rattle.theory.specs.Words.{nodes}
-use Rattle.theory.specs.Clause.{Clause}
 use Rattle.theory.proofs.Small.{treeOf-deep}
 use Rattle.refusal.specs.Number.{NODES, CLAUSES, order}
-use Rattle.refusal.specs.Verdict.{Finding, refused, answered, judged, tried, firstOf}
-use Rattle.refusal.proofs.Judged.{Clean, judged-answer}
+use Rattle.refusal.specs.Verdict.{refused, answered, judged, tried, firstOf}
+use Rattle.refusal.proofs.Judged.{Clean}
 use Rattle.refusal.proofs.Single.{Single, single}
 use Rattle.table.specs.Case.{tableSays}
 use Rattle.cube.specs.Cube.{dnf}
 use Rattle.rule.specs.Rule.{shortList, shortFits}
 use Rattle.rule.proofs.Tests.{short-means}
-use Rattle.listing.specs.Listed.{listedReply, clauseWords, capacity, listAnswer, lists}
+use Rattle.listing.specs.Listed.{listedReply, capacity, listAnswer, lists}
 use Rattle.listing.proofs.ListedLaws.{listed-one}
-use Rattle.listing.proofs.ClauseLaws.{clauses-in}
+use Rattle.listing.proofs.ClauseLaws.{answered-clauses}
 use Rattle.lists.proofs.Listed.{listIn}
 use Rattle.short.specs.Short.{shortFindings, shortOvers, listsShort}
-
--- where a list is the answer, the clauses in its words are the list's
-listed-clauses : (fs overs : List Finding) (xs : List Clause) (k : ℕ) (result : List ℕ) → lists fs overs xs ≡ answered (k ∷ []) (result ∷ []) → listIn k result ≡ xs
-unfolding lists listAnswer
-listed-clauses fs overs xs k result e =
-    let passed : judged overs (listAnswer xs) ≡ answered (k ∷ []) (result ∷ []) = sym (judged-answer fs _ _ _ e _) ∙ e in
-    let a : answered (length xs ∷ []) (clauseWords xs ∷ []) ≡ answered (k ∷ []) (result ∷ []) = sym (judged-answer overs _ _ _ passed _) ∙ passed in
-    let number : length xs ≡ k = cc in
-    let words : clauseWords xs ≡ result = cc in
-    ap₂ listIn (sym number) (sym words ∙ sym (append-nil (clauseWords xs))) ∙ clauses-in xs []
 
 module _ (n count : ℕ) (words : List ℕ) (room : ℕ) (out work : List ℕ) where
   deep : Deep n (meaning n (nodes count words))
@@ -45,7 +34,7 @@ module _ (n count : ℕ) (words : List ℕ) (room : ℕ) (out work : List ℕ) w
   pub short-says : (k : ℕ) (result : List ℕ) → listsShort n count words room out work ≡ answered (k ∷ []) (result ∷ [])
       → (case : ℕ) → dnf n (listIn k result) case ≡ tableSays n count words case
   short-says k result e case =
-      ap (λ xs. dnf n xs case) (listed-clauses (shortFindings n count words room work) (shortOvers n room (meaning n (nodes count words)) out) (shortList n (meaning n (nodes count words))) k result e)
+      ap (λ xs. dnf n xs case) (answered-clauses (shortFindings n count words room work) (shortOvers n room (meaning n (nodes count words)) out) (shortList n (meaning n (nodes count words))) k result e)
       ∙ short-means n (meaning n (nodes count words)) deep case
 
   module _ (clean : Clean (judged (shortFindings n count words room work))) where

@@ -1,12 +1,14 @@
 -- Clauses read back from their words.
-use mathlib.Core.Path.{_≡_, refl, ap, ap₂, _∙_}
-use mathlib.Core.List.{List, [], _∷_, _++_}
+use mathlib.Core.Path.{_≡_, refl, sym, ap, ap₂, _∙_}
+use mathlib.Core.List.{List, [], _∷_, _++_, append-nil}
 use Prim.Native.Nat.{ℕ, zero, suc, _+_, _*_}
 use native.Mathlib.Omega.{arith}
 use lib.ListN.{length, getD}
 use Rattle.theory.specs.Clause.{Clause, clause}
+use Rattle.refusal.specs.Verdict.{Finding, answered, judged}
+use Rattle.refusal.proofs.Judged.{judged-answer}
 use Rattle.cube.specs.Cube.{clauseAt, opening}
-use Rattle.listing.specs.Listed.{clauseWords}
+use Rattle.listing.specs.Listed.{clauseWords, listAnswer, lists}
 
 -- a run's first entry apart
 opening-front : (entry : ℕ → Clause) (k : ℕ) → opening entry (suc k) ≡ entry 0 ∷ opening (λ i. entry (suc i)) k
@@ -33,3 +35,13 @@ clauses-in [] rest = unfold opening in refl
 clauses-in (x ∷ xs) rest =
     opening-front (clauseAt (x .fixed ∷ x .values ∷ (clauseWords xs ++ rest))) (length xs)
     ∙ ap (λ r. x ∷ r) (opening-same _ (clauseAt (clauseWords xs ++ rest)) (length xs) (next-clause (x .fixed) (x .values) (clauseWords xs ++ rest)) ∙ clauses-in xs rest)
+
+-- where a list is the answer, the clauses read from its words are the list's
+pub answered-clauses : (fs overs : List Finding) (xs : List Clause) (k : ℕ) (result : List ℕ) → lists fs overs xs ≡ answered (k ∷ []) (result ∷ []) → opening (clauseAt result) k ≡ xs
+unfolding lists listAnswer
+answered-clauses fs overs xs k result e =
+    let passed : judged overs (listAnswer xs) ≡ answered (k ∷ []) (result ∷ []) = sym (judged-answer fs _ _ _ e _) ∙ e in
+    let a : answered (length xs ∷ []) (clauseWords xs ∷ []) ≡ answered (k ∷ []) (result ∷ []) = sym (judged-answer overs _ _ _ passed _) ∙ passed in
+    let number : length xs ≡ k = cc in
+    let words : clauseWords xs ≡ result = cc in
+    ap₂ (λ m ws. opening (clauseAt ws) m) (sym number) (sym words ∙ sym (append-nil (clauseWords xs))) ∙ clauses-in xs []

@@ -3,7 +3,7 @@
 use mathlib.Core.Path.{_≡_, refl, sym, ap, ap₂, _∙_}
 use mathlib.Core.Logic.{inl, inr}
 use mathlib.Core.Bool.{Bool, true, false, cond}
-use mathlib.Core.List.{List, [], _∷_, append-nil}
+use mathlib.Core.List.{List, [], _∷_}
 use Prim.Native.Nat.{ℕ, _+_, _-_, _^_, _≤_, _<_}
 use native.Mathlib.Omega.{arith}
 use native.Mathlib.Decide.{decLt}
@@ -33,10 +33,10 @@ use Rattle.paths.proofs.PathLaws.{path-count, count-small, paths-formed}
 use Rattle.paths.proofs.Once.{dnf-once, cnf-once}
 use Rattle.paths.proofs.Sums.{dnf-sum, both-sum}
 use Rattle.paths.proofs.Agrees.{list-means}
-use Rattle.listing.specs.Listed.{listedReply, clauseWords, capacity, listAnswer, lists}
+use Rattle.listing.specs.Listed.{listedReply, capacity, listAnswer, lists}
 use Rattle.listing.specs.Listing.{tooManyPaths}
 use Rattle.listing.proofs.ListedLaws.{listed-one}
-use Rattle.listing.proofs.ClauseLaws.{clauses-in}
+use Rattle.listing.proofs.ClauseLaws.{answered-clauses}
 use Rattle.lists.specs.Lists.{listsPaths, listsDnf, listsCnf}
 
 -- the clauses of an answer: so many, as they lie in its words
@@ -56,26 +56,9 @@ module _ (b : Bool) (n count : ℕ) (words out work : List ℕ) where
 
   -- ---- an answer
   module _ (k : ℕ) (result : List ℕ) (e : listsPaths b n count words out work ≡ answered (k ∷ []) (result ∷ [])) where
-    through : listAnswer (pathList b n (nodes count words)) ≡ answered (k ∷ []) (result ∷ [])
-    unfolding lists
-    through =
-        let passed : judged (tooManyPaths b n count words out ∷ []) (listAnswer (pathList b n (nodes count words))) ≡ answered (k ∷ []) (result ∷ []) =
-        sym (judged-answer (workFindings n count words work) _ _ _ e _) ∙ e in
-        sym (judged-answer _ _ _ _ passed _) ∙ passed
-
-    pub list-number : length (pathList b n (nodes count words)) ≡ k
-    unfolding listAnswer
-    list-number = let a = through in cc
-
-    pub list-words : clauseWords (pathList b n (nodes count words)) ≡ result
-    unfolding listAnswer
-    list-words = let a = through in cc
-
     -- the clauses in the answer's words are the table's paths
     pub list-clauses : listIn k result ≡ pathList b n (nodes count words)
-    list-clauses =
-        ap₂ listIn (sym list-number) (sym list-words ∙ sym (append-nil (clauseWords (pathList b n (nodes count words)))))
-        ∙ clauses-in (pathList b n (nodes count words)) []
+    list-clauses = answered-clauses (workFindings n count words work) (tooManyPaths b n count words out ∷ []) (pathList b n (nodes count words)) k result e
 
     pub list-ordered : Ordered n (nodes count words)
     unfolding lists
