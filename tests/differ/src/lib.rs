@@ -37,6 +37,7 @@ pub mod reading_short;
 pub mod reading_walk;
 pub mod run;
 pub mod sample;
+pub mod sampled;
 pub mod shortening;
 pub mod spoiled;
 pub mod spoiled_builds;

@@ -64,6 +64,24 @@ impl Header {
     }
 }
 
+/// A sheet of a list.
+pub fn list_sheet(kind: u64, n: u16, clauses: &[Valuation]) -> Vec<u8> {
+    let count = clauses.len() as u64;
+    let total = 32 + 16 * count;
+    let header = Header { version: 1, n: n.into(), clause_count: count, clause_offset: 32, node_count: 0, node_offset: 0, total, kind };
+    let section = clauses.iter().flat_map(|clause| [clause.fixed.to_le_bytes(), clause.values.to_le_bytes()].concat());
+    header.bytes().into_iter().chain(section).collect()
+}
+
+/// A sheet of a table.
+pub fn table_sheet(n: u16, nodes: &[u32]) -> Vec<u8> {
+    let count = nodes.len() as u64 / 3;
+    let total = 32 + 12 * count;
+    let header =
+        Header { version: 1, n: n.into(), clause_count: 0, clause_offset: 0, node_count: count, node_offset: 32, total, kind: NODES };
+    header.bytes().into_iter().chain(nodes.iter().flat_map(|word| word.to_le_bytes())).collect()
+}
+
 /// The whole answer, for a clause output and a node output of so many words.
 pub fn answer(bytes: &[u8], clause_words: usize, node_words: usize) -> Answer {
     let Some(header) = Header::of(bytes).filter(|header| header.fits(bytes.len() as u64)) else { return Answer::refused(SHEET, 0) };

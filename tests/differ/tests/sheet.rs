@@ -6,7 +6,7 @@ use differ::proved::Room;
 use differ::proved_sheet::read_sheet;
 use differ::random::Random;
 use differ::reading::Valuation;
-use differ::reading_sheet::{answer, Header, CNF, DNF, NODES};
+use differ::reading_sheet::{answer, list_sheet, table_sheet, Header, CNF, DNF};
 use differ::run::{Run, Shares};
 use differ::wrong::objects_to_alterations;
 
@@ -21,24 +21,6 @@ fn judge(run: &mut Run, bytes: &[u8], clause_words: usize, node_words: usize) ->
     let input = || format!("{clause_words} {node_words} {bytes:?}");
     run.judge(ENTRY, &want, &got, bytes.len() >= MANY_BYTES, input);
     want
-}
-
-/// A sheet of a list.
-fn list_sheet(kind: u64, n: u16, clauses: &[Valuation]) -> Vec<u8> {
-    let count = clauses.len() as u64;
-    let total = 32 + 16 * count;
-    let header = Header { version: 1, n: n.into(), clause_count: count, clause_offset: 32, node_count: 0, node_offset: 0, total, kind };
-    let section = clauses.iter().flat_map(|clause| [clause.fixed.to_le_bytes(), clause.values.to_le_bytes()].concat());
-    header.bytes().into_iter().chain(section).collect()
-}
-
-/// A sheet of a table.
-fn table_sheet(n: u16, nodes: &[u32]) -> Vec<u8> {
-    let count = nodes.len() as u64 / 3;
-    let total = 32 + 12 * count;
-    let header =
-        Header { version: 1, n: n.into(), clause_count: 0, clause_offset: 0, node_count: count, node_offset: 32, total, kind: NODES };
-    header.bytes().into_iter().chain(nodes.iter().flat_map(|word| word.to_le_bytes())).collect()
 }
 
 fn replace_word(sheet: &[u8], at: usize, word: u32) -> Vec<u8> {
