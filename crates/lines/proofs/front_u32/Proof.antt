@@ -3,24 +3,16 @@ use lib.Seq.{length-take-le}
 use borrow.Author.Needs.{needs}
 use Rattle.lines.proofs.front_u32.Statement.{statement}
 use Rattle.lines.proofs.front_u32.Tie as tie
-use Rattle.lines.proofs.front_u32.Reads as reads
-use Rattle.lines.proofs.front_u32.Lts as lts
-use Rattle.lines.proofs.at_most.Reads as at-most-reads
-use Rattle.lines.proofs.number_at.Reads as number-at-reads
 
--- src/lib.rt:152:23
 number-at-requires : tie.Need-number-at-requires
 number-at-requires c κs = search needs
 
--- src/lib.rt:152:9
 at-most-requires : tie.Need-at-most-requires
 at-most-requires c κs = search needs
 
--- src/lib.rt:153:5
 slice-aggregate-result : tie.Need-slice-aggregate-result
 slice-aggregate-result c = sym (length-take-le _ _ (c .before .at-most .ensures))
 
--- src/lib.rt:151:1
 returns : tie.Need-returns
 returns c = search needs
 

@@ -3,90 +3,64 @@ use lib.Seq.{length-take-le}
 use borrow.Author.Needs.{needs}
 use Rattle.replaying.proofs.lent_agrees.Statement.{statement}
 use Rattle.replaying.proofs.lent_agrees.Tie as tie
-use Rattle.replaying.proofs.lent_agrees.Reads as reads
-use Rattle.replaying.proofs.lent_agrees.Lts as lts
-use Rattle.lines.proofs.at_most.Reads as at-most-reads
-use Rattle.lines.proofs.number_at.Reads as number-at-reads
-use Rattle.lines.proofs.onward.Reads as onward-reads
-use Rattle.replaying.proofs.call_agrees.Reads as call-agrees-reads
 
--- src/lib.rt:337:37
 number-at-requires : tie.Need-number-at-requires
 number-at-requires c κs = search needs
 
--- src/lib.rt:337:9
 at-most-requires : tie.Need-at-most-requires
 at-most-requires c κs = search needs
 
--- src/lib.rt:338:9
 onward-requires : tie.Need-onward-requires
 onward-requires c κs = search needs
 
--- src/lib.rt:339:39
 number-at-requires-2 : tie.Need-number-at-requires-2
 number-at-requires-2 c κs = search needs
 
--- src/lib.rt:339:9
 at-most-requires-2 : tie.Need-at-most-requires-2
 at-most-requires-2 c κs = search needs
 
--- src/lib.rt:340:9
 onward-requires-2 : tie.Need-onward-requires-2
 onward-requires-2 c κs = search needs
 
--- src/lib.rt:341:37
 number-at-requires-3 : tie.Need-number-at-requires-3
 number-at-requires-3 c κs = search needs
 
--- src/lib.rt:341:9
 at-most-requires-3 : tie.Need-at-most-requires-3
 at-most-requires-3 c κs = search needs
 
--- src/lib.rt:342:9
 onward-requires-3 : tie.Need-onward-requires-3
 onward-requires-3 c κs = search needs
 
--- src/lib.rt:350:9
 slice-relend-prefix-call-agrees : tie.Need-slice-relend-prefix-call-agrees
 slice-relend-prefix-call-agrees c = search needs
 
--- src/lib.rt:350:9
 slice-aggregate-call-agrees : tie.Need-slice-aggregate-call-agrees
 slice-aggregate-call-agrees c = sym (length-take-le _ _ (c .before .before .before .before .before .before .before .before .at-most .ensures))
 
--- src/lib.rt:351:9
 slice-relend-prefix-call-agrees-2 : tie.Need-slice-relend-prefix-call-agrees-2
 slice-relend-prefix-call-agrees-2 c = search needs
 
--- src/lib.rt:351:9
 slice-aggregate-call-agrees-2 : tie.Need-slice-aggregate-call-agrees-2
 slice-aggregate-call-agrees-2 c = sym (length-take-le _ _ (c .before .before .before .before .before .before .at-most2 .ensures))
 
--- src/lib.rt:352:9
 slice-relend-prefix-call-agrees-3 : tie.Need-slice-relend-prefix-call-agrees-3
 slice-relend-prefix-call-agrees-3 c = search needs
 
--- src/lib.rt:352:9
 slice-aggregate-call-agrees-3 : tie.Need-slice-aggregate-call-agrees-3
 slice-aggregate-call-agrees-3 c = sym (length-take-le _ _ (c .before .before .before .before .at-most3 .ensures))
 
--- src/lib.rt:343:5
 call-agrees-requires : tie.Need-call-agrees-requires
 call-agrees-requires c κs = search needs
 
--- src/lib.rt:326:1
 same-length : tie.Need-same-length
 same-length c = search needs
 
--- src/lib.rt:326:1
 same-length-2 : tie.Need-same-length-2
 same-length-2 c = search needs
 
--- src/lib.rt:326:1
 same-length-3 : tie.Need-same-length-3
 same-length-3 c = search needs
 
--- src/lib.rt:326:1
 returns : tie.Need-returns
 returns c = search needs
 
