@@ -39,6 +39,7 @@ pub mod reading_short;
 pub mod reading_walk;
 pub mod run;
 pub mod sample;
+pub mod sampled;
 pub mod sheets;
 pub mod shortening;
 pub mod spoiled;

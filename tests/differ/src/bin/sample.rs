@@ -1,6 +1,4 @@
-//! Prints the sample of calls and wanted answers; the form of a line stands in src/sample.rs.
+//! Prints the sample of calls and all that is wanted of them: crates/replay/stdin. The form of a line stands in src/sample.rs.
 fn main() {
-    for call in differ::sample::calls() {
-        println!("{}", call.line());
-    }
+    print!("{}", differ::sample::text());
 }
