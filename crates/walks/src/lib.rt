@@ -1,4 +1,5 @@
 // Whole walks for the replay: a walk is started once and stepped to its end and past it. Inner.
+use refusal::Refusal;
 use walk::BddPathIterator;
 use walk::PathStep;
 
@@ -27,4 +28,10 @@ pub fn walk_noted(n: u16, count: usize, nodes: &[u32], start: u64, steps: u32) -
         i += 1;
     }
     so_far
+}
+
+// Why a walk's start is refused; number 0 where it is not.
+pub fn start_refusal(n: u16, count: usize, nodes: &[u32]) -> Refusal {
+    let w = BddPathIterator::new(n, count, nodes);
+    w.refusal()
 }

@@ -5,7 +5,8 @@
 //! call is to leave it alone, or 1 more than the words that follow, and zeros behind them.
 //! The bytes of a sheet stand in the list. So do both lists of choose_posting, one after the other; the first number says how long the DNF is, and the
 //! clause buffer takes the whole part that is chosen. `kth_step` starts a walk and makes its steps up to one: the lines of a table show each step's words.
-//! `walk` starts one walk and makes all its steps and two more; its reply is one number, to which every word of every step has been added (`noted`).
+//! `walk` starts one walk and makes all its steps and two more; its reply is the start's refusal, or two 0, and one number, to which every word of every
+//! step has been added (`noted`).
 use crate::answer::{Answer, CLAUSES, NODES};
 use crate::tally::families;
 

@@ -133,8 +133,11 @@ impl Sample {
             let step = list.get(k).map_or(vec![0], |clause| vec![1, clause.fixed, clause.values]);
             self.add(Call::new("kth_step", &[n.into(), k as u64], &Answer::given(step)).left(count, nodes));
         }
-        let steps = list.len() as u64 + 2;
-        self.add(Call::new("walk", &[n.into(), steps], &Answer::given(vec![noted(&list)])).left(count, nodes));
+        let mut whole = Call::new("walk", &[n.into(), list.len() as u64 + 2], &Answer::given(vec![noted(&list)]));
+        if let Answer::Refused { number, place } = start {
+            whole.reply = vec![number, place, noted(&list)];
+        }
+        self.add(whole.left(count, nodes));
     }
 
     /// Each entry on valuations that are well-formed more often than not.
