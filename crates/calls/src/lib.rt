@@ -230,3 +230,13 @@ pub fn call_of_posting(c: Call, list: &[u64], clauses: &mut [u64], reply: &mut [
     lines::copy_u64(posting::choose_posting(dnf, cnf), clauses);
     exports::collartug_choose_posting(dnf, cnf, reply)
 }
+
+// One walk from its start to its end and past it: its refusal, and the number that its steps come to.
+pub fn call_of_walk(c: Call, nodes: &[u32], reply: &mut [u64]) -> u64 {
+    let n = to_u16(c.first);
+    let refusal = walks::start_refusal(n, c.count, nodes);
+    let noted = walks::walk_noted(n, c.count, nodes, 0, to_u32(c.second));
+    let words = [refusal.number as u64, refusal.place, noted];
+    lines::copy_u64(&words, reply);
+    1
+}

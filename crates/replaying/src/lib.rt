@@ -30,6 +30,7 @@ fn make_call(
         28..=30 => calls::call_of_lister(c, left, clauses, work, reply),
         33 => calls::call_of_sheet(list, clauses, nodes, reply),
         34 => calls::call_of_posting(c, list, clauses, reply),
+        35 => calls::call_of_walk(c, left, reply),
         _ => 0,
     }
 }
@@ -228,7 +229,7 @@ pub fn replay(bytes: &[u8], out: &mut [u8]) -> usize
     ensures { λ r. ⌜ r ≤ length (now (out .exit)) ⌝ }
 {
     let mut line = [0u64; 1024];
-    let mut counts = [0u64; 35];
+    let mut counts = [0u64; 36];
     let mut made: u64 = 0;
     let mut differ: u64 = 0;
     let mut next: usize = 0;

@@ -4,7 +4,9 @@
 //! The numbers stand in the order of the call, without counts and lengths; what an entry does not take is 0. What is wanted of a buffer is 0 where the
 //! call is to leave it alone, or 1 more than the words that follow, and zeros behind them.
 //! The bytes of a sheet stand in the list. So do both lists of choose_posting, one after the other; the first number says how long the DNF is, and the
-//! clause buffer takes the whole part that is chosen. `kth_step` starts a walk and steps through it: the steps of one table, from the first on, are a whole walk.
+//! clause buffer takes the whole part that is chosen. `kth_step` starts a walk and makes its steps up to one: the lines of a table show each step's words.
+//! `walk` starts one walk and makes all its steps and two more; its reply is the start's refusal, or two 0, and one number, to which every word of every
+//! step has been added (`noted`).
 use crate::answer::{Answer, CLAUSES, NODES};
 use crate::tally::families;
 
@@ -16,7 +18,7 @@ pub const MOST_NUMBERS: usize = 1024;
 
 /// The entries in the order of their places.
 pub fn names() -> Vec<&'static str> {
-    families().flatten().map(|entry| entry.name).chain(["choose_posting"]).collect()
+    families().flatten().map(|entry| entry.name).chain(["choose_posting", "walk"]).collect()
 }
 
 /// The lent buffers, in the order of a line.

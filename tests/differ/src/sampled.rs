@@ -69,6 +69,12 @@ fn some_tables(random: &mut Random) -> Vec<Built> {
     spread(constant, TABLES / 8).into_iter().chain(spread(other, TABLES - TABLES / 8)).collect()
 }
 
+/// What a whole walk and two steps past its end come to: for each word three times the number so far, and the word. A clause has 1 and its two words, the end 0.
+fn noted(list: &[Valuation]) -> u64 {
+    let words = list.iter().flat_map(|clause| [1, clause.fixed, clause.values]).chain([0, 0]);
+    words.fold(0, |so_far: u64, word| so_far.wrapping_mul(3).wrapping_add(word))
+}
+
 impl Sample {
     fn add(&mut self, call: Call) {
         if call.fits() {
@@ -128,6 +134,11 @@ impl Sample {
             let step = list.get(k).map_or(vec![0], |clause| vec![1, clause.fixed, clause.values]);
             self.add(Call::new("kth_step", &[n.into(), k as u64], &Answer::given(step)).left(count, nodes));
         }
+        let mut whole = Call::new("walk", &[n.into(), list.len() as u64 + 2], &Answer::given(vec![noted(&list)]));
+        if let Answer::Refused { number, place } = start {
+            whole.reply = vec![number, place, noted(&list)];
+        }
+        self.add(whole.left(count, nodes));
     }
 
     /// Each entry on valuations that are well-formed more often than not.

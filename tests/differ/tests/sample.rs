@@ -1,6 +1,6 @@
 //! The sample for replay: what the program reads is what is made here; it shows every entry, answered and with every refusal that it can give; its
 //! lines can be read back; and the program objects to a sample with one number changed.
-use differ::answer::Answer;
+use differ::answer::{Answer, LIMIT, REDUCED, SHORT, TABLE};
 use differ::random::Random;
 use differ::root;
 use differ::sample::{names, text, Call, Lent};
@@ -50,6 +50,7 @@ fn the_sample_shows_every_refusal() {
         assert!(numbers.iter().eq([0].iter().chain(entry.refusals)), "{}: {numbers:?}", entry.name);
     }
     assert!(seen["choose_posting"].iter().eq(&[0]));
+    assert!(seen["walk"].iter().eq(&[0, LIMIT, SHORT, TABLE, REDUCED]));
     assert_eq!(seen.len(), names().len());
 }
 

@@ -6,7 +6,7 @@ use Rattle.replaying.proofs.replay.Statement.{statement}
 use Rattle.replaying.proofs.replay.Tie as tie
 
 abbrev Inv-loop : tie.InvT-loop
-Inv-loop bytes out₀ line₀ counts₀ made₀ differ₀ next₀ at₀ out line counts made differ next at = (length out ≡ length out₀) × (length line ≡ 1024) × (length counts ≡ 35)
+Inv-loop bytes out₀ line₀ counts₀ made₀ differ₀ next₀ at₀ out line counts made differ next at = (length out ≡ length out₀) × (length line ≡ 1024) × (length counts ≡ 36)
 
 abbrev μ-loop : tie.MeasureT-loop
 μ-loop bytes out₀ line₀ counts₀ made₀ differ₀ next₀ at₀ out line counts made differ next at = length bytes - at
