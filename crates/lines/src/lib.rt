@@ -214,7 +214,19 @@ fn wanted(line: &[u64], at: usize, i: usize) -> u64 {
     0
 }
 
+// No more words are wanted of a buffer than it has.
+fn has_room(line: &[u64], at: usize, room: usize) -> bool {
+    let fate = number_at(line, at);
+    if fate == 0 {
+        return true;
+    }
+    fate - 1 <= (room as u64)
+}
+
 pub fn agrees_u32(line: &[u64], at: usize, buffer: &[u32]) -> bool {
+    if !has_room(line, at, buffer.len()) {
+        return false;
+    }
     let mut i: usize = 0;
     while i < buffer.len() {
         if wide(buffer[i]) != wanted(line, at, i) {
@@ -226,6 +238,9 @@ pub fn agrees_u32(line: &[u64], at: usize, buffer: &[u32]) -> bool {
 }
 
 pub fn agrees_u64(line: &[u64], at: usize, buffer: &[u64]) -> bool {
+    if !has_room(line, at, buffer.len()) {
+        return false;
+    }
     let mut i: usize = 0;
     while i < buffer.len() {
         if buffer[i] != wanted(line, at, i) {
@@ -234,15 +249,6 @@ pub fn agrees_u64(line: &[u64], at: usize, buffer: &[u64]) -> bool {
         i += 1;
     }
     true
-}
-
-// No more words are wanted of a buffer than it has.
-pub fn has_room(line: &[u64], at: usize, room: usize) -> bool {
-    let fate = number_at(line, at);
-    if fate == 0 {
-        return true;
-    }
-    fate - 1 <= (room as u64)
 }
 
 // The place behind what is wanted of a buffer.

@@ -151,13 +151,13 @@ fn the_program_objects_to_a_changed_reply() {
     assert_eq!(replayed(&whole), objections + &wanted);
 }
 
-/// Another fate for a buffer: zeroed where it is to be left alone, left alone where it is to be zeroed, or its last word changed.
-fn other_fate(lent: u64, wanted: &Option<Vec<u64>>) -> Option<Option<Vec<u64>>> {
+/// Another fate for a buffer: a word more than it has, zeroed where it is to be left alone, left alone where it is to be zeroed, or its last word changed.
+fn other_fate(lent: u64, wanted: &Option<Vec<u64>>) -> Option<Vec<u64>> {
     match wanted {
-        _ if lent == 0 => None,
-        None => Some(Some(vec![])),
-        Some(words) if words.is_empty() => Some(None),
-        Some(words) => Some(Some([&words[..words.len() - 1], &[words.last().unwrap() ^ 1]].concat())),
+        _ if lent == 0 => Some(vec![0]),
+        None => Some(vec![]),
+        Some(words) if words.is_empty() => None,
+        Some(words) => Some([&words[..words.len() - 1], &[words.last().unwrap() ^ 1]].concat()),
     }
 }
 
@@ -165,13 +165,12 @@ fn other_fate(lent: u64, wanted: &Option<Vec<u64>>) -> Option<Option<Vec<u64>>> 
 fn the_program_objects_to_any_changed_buffer() {
     let mut spoiled = Vec::new();
     for call in calls() {
-        for (k, fate) in (0..3).filter_map(|k| other_fate(call.lent[k], &call.wanted[k]).map(|fate| (k, fate))) {
+        for k in 0..3 {
             let mut other = call.clone();
-            other.wanted[k] = fate;
+            other.wanted[k] = other_fate(call.lent[k], &call.wanted[k]);
             spoiled.push(other.line());
         }
     }
-    assert!(spoiled.len() > 1000, "{}", spoiled.len());
     for part in spoiled.chunks(500) {
         let told = replayed(&(part.join("\n") + "\n"));
         assert!(told.ends_with(&format!("{0} calls replayed, {0} differ\n", part.len())), "{}", told.lines().last().unwrap());

@@ -10,6 +10,12 @@ Inv-loop line at buffer i₀ i = i ≤ length buffer
 abbrev μ-loop : tie.MeasureT-loop
 μ-loop line at buffer i₀ i = length buffer - i
 
+has-room-requires : tie.Need-has-room-requires Inv-loop μ-loop
+has-room-requires c κs = search needs
+
+returns : tie.Need-returns Inv-loop μ-loop
+returns c = search needs
+
 loop-holds : tie.Need-loop-holds Inv-loop μ-loop
 loop-holds c = search needs
 
@@ -25,8 +31,8 @@ wide-requires c κs = search needs
 wanted-requires : tie.Need-wanted-requires Inv-loop μ-loop
 wanted-requires c κs = search needs
 
-returns : tie.Need-returns Inv-loop μ-loop
-returns c = search needs
+returns-2 : tie.Need-returns-2 Inv-loop μ-loop
+returns-2 c = search needs
 
 add-i : tie.Need-add-i Inv-loop μ-loop
 add-i c = search needs
@@ -37,8 +43,8 @@ loop-less c = search needs
 loop-again : tie.Need-loop-again Inv-loop μ-loop
 loop-again c = search needs
 
-returns-2 : tie.Need-returns-2 Inv-loop μ-loop
-returns-2 c = search needs
+returns-3 : tie.Need-returns-3 Inv-loop μ-loop
+returns-3 c = search needs
 
 pub agrees-u32-spec : {M : Type 1} → statement M
 agrees-u32-spec =
@@ -46,13 +52,15 @@ agrees-u32-spec =
     (tie.spec
     Inv-loop
     μ-loop
+    has-room-requires
+    returns
     loop-holds
     mul-wide
     shared-slice-read-wide
     wide-requires
     wanted-requires
-    returns
+    returns-2
     add-i
     loop-less
     loop-again
-    returns-2)
+    returns-3)
