@@ -5,8 +5,6 @@ ghost use Prim.Native.Nat.{_≤_};
 ghost use lib.ListN.{length};
 use calls::Call;
 
-const LINE_END: u8 = 10;
-
 // The call itself; 0 where there is no such entry.
 fn make_call(
     c: Call,
@@ -179,51 +177,6 @@ fn line_agrees(line: &[u64]) -> bool {
     )
 }
 
-fn one_more(number: u64) -> u64 {
-    std::num::wrapping_add_u64(number, 1)
-}
-
-fn count_entry(counts: &mut [u64], entry: u64) {
-    let at = lines::to_usize(entry);
-    if at < counts.len() {
-        counts[at] = one_more(counts[at]);
-    }
-}
-
-fn put_difference(out: &mut [u8], at: usize, line: u64, entry: u64) -> usize {
-    let named = lines::put_bytes(out, at, b"line ");
-    let numbered = lines::put_number(out, named, line);
-    let of_entry = lines::put_bytes(out, numbered, b" differs: entry ");
-    let whole = lines::put_number(out, of_entry, entry);
-    lines::put_byte(out, whole, LINE_END)
-}
-
-fn put_count(out: &mut [u8], at: usize, entry: u64, calls: u64) -> usize {
-    let named = lines::put_bytes(out, at, b"entry ");
-    let numbered = lines::put_number(out, named, entry);
-    let colon = lines::put_bytes(out, numbered, b": ");
-    let whole = lines::put_number(out, colon, calls);
-    lines::put_byte(out, whole, LINE_END)
-}
-
-fn put_counts(out: &mut [u8], at: usize, counts: &[u64]) -> usize {
-    let mut next = at;
-    let mut i: usize = 0;
-    while i < counts.len() {
-        next = put_count(out, next, i as u64, counts[i]);
-        i += 1;
-    }
-    next
-}
-
-fn put_total(out: &mut [u8], at: usize, calls: u64, differ: u64) -> usize {
-    let counted = lines::put_number(out, at, calls);
-    let replayed = lines::put_bytes(out, counted, b" calls replayed, ");
-    let differing = lines::put_number(out, replayed, differ);
-    let whole = lines::put_bytes(out, differing, b" differ");
-    lines::put_byte(out, whole, LINE_END)
-}
-
 // Replays every line; each that differs is told, then the calls of each entry and the totals. How much of the output is written.
 pub fn replay(bytes: &[u8], out: &mut [u8]) -> usize
     ensures { λ r. ⌜ r ≤ length (now (out .exit)) ⌝ }
@@ -236,14 +189,14 @@ pub fn replay(bytes: &[u8], out: &mut [u8]) -> usize
     let mut at: usize = 0;
     while at < bytes.len() {
         at = lines::read_line(bytes, at, &mut line);
-        made = one_more(made);
-        count_entry(&mut counts, line[0]);
+        made = telling::one_more(made);
+        telling::count_entry(&mut counts, line[0]);
         if !line_agrees(&line) {
-            differ = one_more(differ);
-            next = put_difference(out, next, made, line[0]);
+            differ = telling::one_more(differ);
+            next = telling::put_difference(out, next, made, line[0]);
         }
     }
-    let counted = put_counts(out, next, &counts);
-    let whole = put_total(out, counted, made, differ);
+    let counted = telling::put_counts(out, next, &counts);
+    let whole = telling::put_total(out, counted, made, differ);
     lines::at_most(whole as u64, out.len())
 }

@@ -2,8 +2,8 @@ use mathlib.Core.Path.{_≡_, refl}
 use Prim.Native.Nat.{_-_}
 use lib.ListN.{length}
 use borrow.Author.Needs.{needs}
-use Rattle.replaying.proofs.put_counts.Statement.{statement}
-use Rattle.replaying.proofs.put_counts.Tie as tie
+use Rattle.telling.proofs.put_counts.Statement.{statement}
+use Rattle.telling.proofs.put_counts.Tie as tie
 
 abbrev Inv-loop : tie.InvT-loop
 Inv-loop out₀ at counts next₀ i₀ out next i = length out ≡ length out₀
