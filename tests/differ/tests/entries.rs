@@ -67,7 +67,7 @@ fn every_entry_is_there_with_all_that_its_row_names() {
 #[test]
 fn wrong_rows_are_objected_to() {
     let good = "| `inspect` | `crates/table/src/lib.rt` | `crates/table/specs/Inspection.antt`: `inspects` | `crates/demands/proofs/Demand1.antt`: `inspect-sound` | \
-                `table/inspect-place`, `table/inspect-own-link` | `tables.rs` |";
+                `table/inspect-place`, `table/inspect-equal-marks` | `tables.rs` |";
     assert_eq!(check(&rows(good)[0]), Ok(()));
     for (from, to) in [
         ("`inspect` |", "`inspects` |"),
