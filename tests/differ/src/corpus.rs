@@ -221,3 +221,16 @@ fn link(random: &mut Random, nodes: &[u32], i: usize) -> usize {
         random.below(2)
     }
 }
+
+/// At least so many of all marks.
+pub fn at_least(n: u16, many: u16) -> Bdd {
+    // with this modulus the sum of n ones is itself
+    let sum = Sum { weights: vec![1; usize::from(n)], modulus: usize::from(n) + 1, accepted: u64::MAX << many };
+    let bdd = Built::new(n, Meaning::Sum(sum)).unwrap().bdd;
+    bdd.and(&bdd)
+}
+
+/// An odd number of all marks.
+pub fn parity_of_all(n: u16) -> Bdd {
+    Built::new(n, Meaning::Parity((1 << n) - 1)).unwrap().bdd
+}

@@ -3,7 +3,7 @@ use biodivine_lib_bdd::Bdd;
 use differ::answer::{compare_unserved, Answer, CLAUSES, LEAST_REPLY, LIMIT, NODES, SHORT, TABLE};
 use differ::convert::as_made;
 use differ::copies::forms;
-use differ::corpus::{windowed, Built, Meaning, Sum, MOST_NODES};
+use differ::corpus::{at_least, parity_of_all, windowed, Built, Meaning, Sum, MOST_NODES};
 use differ::expected_operators::reduced;
 use differ::expected_short::{listed, Rule};
 use differ::extracting::Extractor;
@@ -235,14 +235,6 @@ fn limits(run: &mut Run, random: &mut Random) {
     }
 }
 
-/// At least so many of all marks.
-fn at_least(n: u16, many: u16) -> Bdd {
-    // with this modulus the sum of n ones is itself
-    let sum = Sum { weights: vec![1; usize::from(n)], modulus: usize::from(n) + 1, accepted: u64::MAX << many };
-    let bdd = Built::new(n, Meaning::Sum(sum)).unwrap().bdd;
-    bdd.and(&bdd)
-}
-
 /// A list of exactly 1,024 clauses, thresholds, and long lists that are only counted; with the greatest room too.
 fn long_lists(run: &mut Run, random: &mut Random) {
     let rule = &mut Rule::new(MOST_WRITTEN);
@@ -305,9 +297,8 @@ fn short_lists_are_the_oracles() {
 #[test]
 fn very_long_lists_are_refused() {
     let (mut run, mut rule) = (Run::default(), Rule::new(MOST_WRITTEN));
-    let parity = Built::new(60, Meaning::Parity(u64::MAX >> 4)).unwrap().bdd;
     for (what, bdd, many) in
-        [("parity of 60 marks", parity, 1 << 59), ("at least 30 of 60 marks", at_least(60, 30), 118_264_581_564_861_424)]
+        [("parity of 60 marks", parity_of_all(60), 1 << 59), ("at least 30 of 60 marks", at_least(60, 30), 118_264_581_564_861_424)]
     {
         let (nodes, subject) = (bdd.renumbered(), Subject::new(&mut rule, 60, bdd));
         assert_eq!(subject.followed.clauses, many);

@@ -121,4 +121,5 @@ fn main() {
         short::time_corpus(&cases);
     }
     slow::time_slowest(&mut buffers);
+    short::time_refusals();
 }

@@ -2,7 +2,7 @@
 use crate::corpora::Case;
 use biodivine_lib_bdd::Bdd;
 use differ::convert::of_valuation;
-use differ::corpus::MOST_NODES;
+use differ::corpus::{at_least, parity_of_all, MOST_NODES};
 use differ::expected_builders::built;
 use differ::proved_short::call_into;
 use differ::shortening::Shortening;
@@ -59,5 +59,19 @@ pub fn time_corpus(cases: &[Case]) {
         if !timed.is_empty() {
             report(&format!("  short, room {room}"), &timed);
         }
+    }
+}
+
+/// Lists far longer than the output: the rule is followed to its end all the same, and each must be refused in so long.
+pub fn time_refusals() {
+    let refused = [("parity of 60 marks", parity_of_all(60), 1), ("at least 30 of 60 marks", at_least(60, 30), 10)];
+    for (name, bdd, seconds) in refused {
+        let nodes = bdd.renumbered();
+        let call = Shortening::whole(60, &nodes, MOST_NODES, 2048, 0);
+        let (mut out, mut work, mut reply) = (vec![0; call.out], vec![0; call.work], vec![0; 64]);
+        let taken = time(|| assert_eq!(call_into(&call, &mut out, &mut work, &mut reply), 1));
+        assert_eq!(reply[0], differ::answer::CLAUSES, "{name}");
+        let verdict = if taken <= Duration::from_secs(seconds) { "within" } else { "OVER" };
+        println!("short list of {name}, refused: {:.2} s ({verdict} {seconds} s)", taken.as_secs_f64());
     }
 }
