@@ -1,6 +1,6 @@
 //! The program as a process against a second reading of what it prints: the specification's own sheets, and a hundred thousand others,
 //! whole and damaged. On another machine than x86-64 each start takes the emulator a fiftieth of a second; there the same proved module,
-//! compiled for the machine, prints them all, and the file that ./run starts prints one in fifty.
+//! compiled for the machine, prints them all, and the file that ./run starts prints one in two hundred.
 use biodivine_lib_bdd::{Bdd, BddVariableSet};
 use differ::answer::{CLAUSE, CLAUSES, LIMIT, NODES, SHEET};
 use differ::building::all_marks;
@@ -17,7 +17,7 @@ use std::collections::BTreeMap;
 use std::time::Duration;
 
 const LEAST_SHEETS: u64 = 100_000;
-const EMULATED_ONE_IN: u64 = 50;
+const EMULATED_ONE_IN: u64 = 200;
 const KINDS: [u64; 2] = [DNF, CNF];
 const N_WORD: usize = 1;
 const KIND_WORD: usize = 7;
