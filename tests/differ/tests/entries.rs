@@ -67,15 +67,15 @@ fn every_entry_is_there_with_all_that_its_row_names() {
 #[test]
 fn wrong_rows_are_objected_to() {
     let good = "| `inspect` | `crates/table/src/lib.rt` | `crates/table/specs/Inspection.antt`: `inspects` | `crates/demands/proofs/Demand1.antt`: `inspect-sound` | \
-                `table/inspect-place`, `table/inspect-equal-marks` | `tables.rs` |";
+                `table/inspect-equal-marks`, `table/inspect-own-link` | `tables.rs` |";
     assert_eq!(check(&rows(good)[0]), Ok(()));
     for (from, to) in [
         ("`inspect` |", "`inspects` |"),
         (": `inspects`", ": `inspected`"),
         (": `inspect-sound`", ""),
         ("inspect-sound", "inspect-loud"),
-        ("table/inspect-place", "table/none"),
-        ("`table/inspect-place`, ", ""),
+        ("table/inspect-own-link", "table/none"),
+        ("`table/inspect-equal-marks`, ", ""),
         ("tables.rs", "tabled.rs"),
     ] {
         assert!(check(&rows(&good.replace(from, to))[0]).is_err(), "{from} as {to}");
