@@ -11,7 +11,7 @@ use borrow.Author.Tests.{eq-eqb, ne-eqb}
 use Rattle.theory.specs.Tree.{Tree, Deep, sameTree, mapped, cofactor}
 use Rattle.theory.specs.Table.{Node, node, Table, at, treeOf, meaning, walk, constants, cut, canon, Good}
 use Rattle.theory.specs.Words.{stride, nodeAt, nodes}
-use Rattle.theory.proofs.Step.{treeOf-append}
+use Rattle.theory.proofs.Step.{Stands, treeOf-append}
 use Rattle.theory.proofs.Find.{node-eq}
 use Rattle.theory.proofs.Walk.{Walked, sound}
 use Rattle.theory.proofs.Canon.{Canonical, canonical, canon-ordered}
@@ -170,22 +170,25 @@ module _ (n : ℕ) (t u : Tree) (made : ℕ) (pool : List ℕ) (answer : Noted) 
   brought p total e = subst (λ z. Brings n t u made pool z) e b
 
 module _ (n : ℕ) (t u : Tree) (made : ℕ) (pool : List ℕ) (p total : ℕ) (b : Brought n t u made pool p total) where
+  left : Stands (nodes total pool) 0 (made - 1)
+  left = record { lies = omega (arith, b .left, length-nodes total pool); fits = omega arith }
+
+  right : Stands (nodes total pool) 0 p
+  right = record { lies = omega (arith, b .right, length-nodes total pool); fits = omega arith }
+
   same-is : sameTree t u ≡ eqb (made - 1) p
-  same-is =
-      ap₂ sameTree (sym (b .left-means)) (sym (b .right-means))
-      ∙ same-nodes n (nodes total pool) (b .good) n 0 (made - 1) p (omega arith)
-      (record { lies = omega (arith, b .left, length-nodes total pool); fits = omega arith })
-      (record { lies = omega (arith, b .right, length-nodes total pool); fits = omega arith })
+  same-is = ap₂ sameTree (sym (b .left-means)) (sym (b .right-means)) ∙ same-nodes n (nodes total pool) (b .good) n 0 (made - 1) p (omega arith) left right
 
   pub agree : made - 1 ≡ p → gives (0 ∷ []) ≡ replied (coverAnswer t u)
   unfolding coverAnswer replied
   agree e = rw (same-is, eq-eqb (made - 1) p e)
 
-  pub differ : (made - 1 ≡ p → ⊥) → (c : ℕ) → c ≡ firstDiffering (treeOf n (nodes total pool) 0 (made - 1)) (treeOf n (nodes total pool) 0 p) → gives (1 ∷ c ∷ []) ≡ replied (coverAnswer t u)
+  pub differ : (made - 1 ≡ p → ⊥) → (c : ℕ) → c ≡ firstDiffering (treeOf (n - 0) (nodes total pool) 0 (made - 1)) (treeOf (n - 0) (nodes total pool) 0 p) → gives (1 ∷ c ∷ []) ≡ replied (coverAnswer t u)
   unfolding coverAnswer replied
   differ ne c e =
-      let is : c ≡ firstDiffering t u = e ∙ ap₂ firstDiffering (b .left-means) (b .right-means) in
+      let all : n - 0 ≡ n = omega arith in
+      let is : c ≡ firstDiffering t u = rw all at e ∙ ap₂ firstDiffering (b .left-means) (b .right-means) in
       rw (same-is, ne-eqb (made - 1) p ne, is)
 
-  pub paired : n ≤ maxMarks → Paired n total pool (made - 1) p
-  paired marks = record { marks = marks; few = b .few; long = b .long; good = b .good; left = b .left; right = b .right }
+  pub paired : n ≤ maxMarks → Paired n 0 total pool (made - 1) p
+  paired marks = record { marks = marks; within = omega arith; few = b .few; long = b .long; good = b .good; left = left; right = right }

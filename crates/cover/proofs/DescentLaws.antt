@@ -2,20 +2,23 @@
 use mathlib.Core.Path.{_≡_, refl, sym, ap, ap₂, _∙_}
 use mathlib.Core.Bool.{Bool, true, false, cond}
 use mathlib.Core.List.{List}
-use Prim.Native.Nat.{ℕ, zero, suc, _+_, _*_, _-_, _/_, _%_, _^_, _<_, _≤_}
+use Prim.Native.Nat.{ℕ, zero, suc, _+_, _*_, _-_, _^_, _<_, _≤_}
 use native.Mathlib.Omega.{arith}
 use native.Mathlib.Decide.{ℕ-discrete}
 use native.Mathlib.Numerals.{add-one}
 use lib.Dec.{eqb}
+use lib.Pow.{pow-mono}
 use borrow.Author.Tests.{eq-eqb, ne-eqb}
-use Rattle.theory.specs.Mask.{setBit}
-use Rattle.theory.specs.Tree.{sameTree}
+use Rattle.theory.specs.Tree.{Tree, leaf, fork, Deep, sameTree}
 use Rattle.theory.specs.Table.{Node, Table, childOf, step, treeOf, Good}
 use Rattle.theory.specs.Words.{nodeAt, nodes}
 use Rattle.theory.proofs.Step.{Stands, stands-step}
 use Rattle.theory.proofs.Walk.{alone}
+use Rattle.theory.proofs.Small.{treeOf-deep}
 use Rattle.theory.proofs.Words.{length-nodes, at-nodes}
 use Rattle.theory.proofs.Support.{same-equal, same-refl}
+use Rattle.refusal.specs.Limits.{maxMarks}
+use Rattle.build.proofs.BuildLaws.{some-marks}
 use Rattle.cover.specs.Cover.{firstDiffering}
 use Rattle.cover.specs.Compare.{stepAt, Paired}
 
@@ -44,91 +47,89 @@ same-nodes n s g k l p q e a b = elim (ℕ-discrete p q) [
     told-apart ne true is = absurd (ne (alone n s g k l p q e a b (same-equal (treeOf k s l p) (treeOf k s l q) is)))
     told-apart ne false is = is
 
--- ---- a bit above all that is set
-pub set-above : (l : ℕ) (b : Bool) (c : ℕ) → c < 2 ^ l → setBit l b c ≡ c + cond b 1 0 * 2 ^ l
-unfolding setBit
-set-above zero true c h = omega arith
-set-above zero false c h = omega arith
-set-above (suc l) b c h = rw (set-above l b (c / 2) (omega arith)) (split b)
-  where
-    split : (b : Bool) → 2 * (c / 2 + cond b 1 0 * 2 ^ l) + c % 2 ≡ c + cond b 1 0 * 2 ^ suc l
-    split true = omega arith
-    split false = omega arith
-
 -- ---- the descent
-down : (k : ℕ) (s : Table) (l p q : ℕ) (bit : Bool) → sameTree (treeOf k s (suc l) (step s l false p)) (treeOf k s (suc l) (step s l false q)) ≡ bit
-    → firstDiffering (treeOf (suc k) s l p) (treeOf (suc k) s l q) ≡ 2 * firstDiffering (treeOf k s (suc l) (step s l bit p)) (treeOf k s (suc l) (step s l bit q)) + cond bit 1 0
+pub first-small : (k : ℕ) (t u : Tree) → Deep k t → firstDiffering t u < 2 ^ k
+unfolding firstDiffering
+first-small zero (leaf a) u d = omega arith
+first-small zero (fork lo hi) u d = absurd d
+first-small (suc k) (leaf a) u d = absurd d
+first-small (suc k) (fork lo hi) (leaf b) d = some-marks (suc k)
+first-small (suc k) (fork lo hi) (fork lo′ hi′) d = side (sameTree lo lo′) (first-small k lo lo′ (d .0)) (first-small k hi hi′ (d .1))
+  where
+    side : (same : Bool) → firstDiffering lo lo′ < 2 ^ k → firstDiffering hi hi′ < 2 ^ k → cond same (2 * firstDiffering hi hi′ + 1) (2 * firstDiffering lo lo′) < 2 ^ suc k
+    side true a b = omega arith
+    side false a b = omega arith
+
+down : (k : ℕ) (s : Table) (l p q : ℕ) (same : Bool) → sameTree (treeOf k s (suc l) (step s l false p)) (treeOf k s (suc l) (step s l false q)) ≡ same
+    → firstDiffering (treeOf (suc k) s l p) (treeOf (suc k) s l q)
+    ≡ cond same (2 * firstDiffering (treeOf k s (suc l) (step s l true p)) (treeOf k s (suc l) (step s l true q)) + 1) (2 * firstDiffering (treeOf k s (suc l) (step s l false p)) (treeOf k s (suc l) (step s l false q)))
 unfolding treeOf firstDiffering
-down k s l p q true e = rw e
-down k s l p q false e = rw e (omega arith)
+down k s l p q same e = rw e
 
-carried : (c b f x : ℕ) → c + b * x + f * (2 * x) ≡ c + (2 * f + b) * x
-carried c b f x = omega arith
-
--- the way to a level: the bits so far, and what is left to descend
-pub record Descent (n count : ℕ) (words : List ℕ) (p₀ q₀ level p q case : ℕ) : Type 0 where
-  pub within : level ≤ n
-  pub left : Stands (nodes count words) level p
-  pub right : Stands (nodes count words) level q
-  pub small : case < 2 ^ level
-  pub whole : case + firstDiffering (treeOf (n - level) (nodes count words) level p) (treeOf (n - level) (nodes count words) level q) * 2 ^ level
-      ≡ firstDiffering (treeOf n (nodes count words) 0 p₀) (treeOf n (nodes count words) 0 q₀)
-
-module _ (n count : ℕ) (words : List ℕ) (p₀ q₀ : ℕ) (g : Paired n count words p₀ q₀) where
+module _ (n count : ℕ) (words : List ℕ) where
   abbrev s : Table
   s = nodes count words
 
-  pub descent-starts : Descent n count words p₀ q₀ 0 p₀ q₀ 0
-  descent-starts = record {
-    within = omega arith;
-    left = record { lies = omega (arith, g .left, length-nodes count words); fits = omega arith };
-    right = record { lies = omega (arith, g .right, length-nodes count words); fits = omega arith };
-    small = omega arith;
-    whole =
-        let z : n - 0 ≡ n = omega arith in
-        rw z (omega arith);
-  }
+  -- the first case from a level on
+  abbrev pub firstFrom : ℕ → ℕ → ℕ → ℕ
+  firstFrom level p q = firstDiffering (treeOf (n - level) s level p) (treeOf (n - level) s level q)
 
-  bottom : (level p q : ℕ) → firstDiffering (treeOf 0 s level p) (treeOf 0 s level q) ≡ 0
+  pub none-left : (level p q : ℕ) → level ≡ n → 0 ≡ firstFrom level p q
   unfolding treeOf firstDiffering
-  bottom level p q = refl
+  none-left level p q e = let z : n - level ≡ 0 = omega arith in rw z
 
-  pub descent-ends : (level p q case : ℕ) → Descent n count words p₀ q₀ level p q case → n ≤ level → case ≡ firstDiffering (treeOf n s 0 p₀) (treeOf n s 0 q₀)
-  descent-ends level p q case d h =
-      let z : n - level ≡ 0 = omega arith in
-      let e : firstDiffering (treeOf (n - level) s level p) (treeOf (n - level) s level q) ≡ 0 = rw z (bottom level p q) in
-      sym (rw e (omega arith)) ∙ d .whole
-
-  module _ (level p q case : ℕ) (d : Descent n count words p₀ q₀ level p q case) where
+  module _ (level p q : ℕ) (g : Paired n level count words p q) where
     pub left-lies : p < count
-    left-lies = omega (arith, d .left .lies, length-nodes count words)
+    left-lies = omega (arith, g .left .lies, length-nodes count words)
 
     pub right-lies : q < count
-    right-lies = omega (arith, d .right .lies, length-nodes count words)
+    right-lies = omega (arith, g .right .lies, length-nodes count words)
 
-    -- one level down, by the bit that says whether the low sides are one node
-    pub descent-more : level < n → (low other : ℕ) (bit : Bool) (p′ q′ case′ : ℕ) → low ≡ stepAt words level false p → other ≡ stepAt words level false q → bit ≡ eqb low other
-        → p′ ≡ stepAt words level bit p → q′ ≡ stepAt words level bit q → case′ ≡ setBit level bit case → Descent n count words p₀ q₀ (level + 1) p′ q′ case′
-    descent-more h low other bit p′ q′ case′ el eo eb ep eq ec =
-        let ap′ : p′ ≡ step s level bit p = ep ∙ step-at count words level bit p left-lies in
-        let aq′ : q′ ≡ step s level bit q = eq ∙ step-at count words level bit q right-lies in
-        let same : sameTree (treeOf (n - suc level) s (suc level) (step s level false p)) (treeOf (n - suc level) s (suc level) (step s level false q)) ≡ bit =
-        same-nodes n s (g .good) (n - suc level) (suc level) _ _ (omega arith) (stands-step n s (g .good .ordered) level false p h (d .left)) (stands-step n s (g .good .ordered) level false q h (d .right))
-        ∙ sym (ap₂ eqb (el ∙ step-at count words level false p left-lies) (eo ∙ step-at count words level false q right-lies))
-        ∙ sym eb in
-        let k : n - level ≡ suc (n - suc level) = omega arith in
-        let is : firstDiffering (treeOf (n - level) s level p) (treeOf (n - level) s level q) ≡ _ = ap (λ x. firstDiffering (treeOf x s level p) (treeOf x s level q)) k ∙ down (n - suc level) s level p q bit same in
-        let sum : case′ ≡ case + cond bit 1 0 * 2 ^ level = ec ∙ set-above level bit case (d .small) in
-        let up : 2 ^ suc level ≡ 2 * 2 ^ level = omega arith in
-        rw (ap′, aq′, sum, add-one level)
-        (record {
-          within = h;
-          left = stands-step n s (g .good .ordered) level bit p h (d .left);
-          right = stands-step n s (g .good .ordered) level bit q h (d .right);
-          small = rw up (bounded bit);
-          whole = rw up (carried case (cond bit 1 0) (firstDiffering _ _) (2 ^ level) ∙ ap (λ f. case + f * 2 ^ level) (sym is) ∙ d .whole);
-        })
-      where
-        bounded : (b : Bool) → case + cond b 1 0 * 2 ^ level < 2 * 2 ^ level
-        bounded true = omega (arith, d .small)
-        bounded false = omega (arith, d .small)
+    module _ (ne : level ≡ n → ⊥) where
+      more : n - level ≡ suc (n - suc level)
+      more = omega (arith, g .within)
+
+      module _ (bit : Bool) (p′ q′ : ℕ) (ep : p′ ≡ stepAt words level bit p) (eq : q′ ≡ stepAt words level bit q) where
+        left-is : p′ ≡ step s level bit p
+        left-is = ep ∙ step-at count words level bit p left-lies
+
+        right-is : q′ ≡ step s level bit q
+        right-is = eq ∙ step-at count words level bit q right-lies
+
+        pub paired-below : Paired n (level + 1) count words p′ q′
+        paired-below = record {
+          marks = g .marks;
+          within = omega (arith, g .within);
+          few = g .few;
+          long = g .long;
+          good = g .good;
+          left = rw (left-is, add-one level) (stands-step n s (g .good .ordered) level bit p (omega (arith, g .within)) (g .left));
+          right = rw (right-is, add-one level) (stands-step n s (g .good .ordered) level bit q (omega (arith, g .within)) (g .right));
+        }
+
+        -- a case of fewer marks, so that twice it and one more is a case too
+        pub first-fits : (r : ℕ) → r ≡ firstFrom (level + 1) p′ q′ → 2 * r + 1 < 2 ^ maxMarks
+        first-fits r e =
+            let small = first-small (n - (level + 1)) _ (treeOf (n - (level + 1)) s (level + 1) q′) (treeOf-deep (n - (level + 1)) s (level + 1) p′) in
+            let most : 2 ^ (n - (level + 1)) ≤ 2 ^ 59 = pow-mono {i = n - (level + 1)} {j = 59} (omega (arith, g .marks, g .within)) in
+            omega (arith, e, small, most)
+
+        first-is : (r : ℕ) → r ≡ firstFrom (level + 1) p′ q′
+            → r ≡ firstDiffering (treeOf (n - suc level) s (suc level) (step s level bit p)) (treeOf (n - suc level) s (suc level) (step s level bit q))
+        first-is r e = rw (left-is, right-is, add-one level) at e
+
+      module _ (low other : ℕ) (el : low ≡ stepAt words level false p) (eo : other ≡ stepAt words level false q) where
+        same-is : sameTree (treeOf (n - suc level) s (suc level) (step s level false p)) (treeOf (n - suc level) s (suc level) (step s level false q)) ≡ eqb low other
+        same-is =
+            same-nodes n s (g .good) (n - suc level) (suc level) _ _ (omega (arith, g .within))
+            (stands-step n s (g .good .ordered) level false p (omega (arith, g .within)) (g .left))
+            (stands-step n s (g .good .ordered) level false q (omega (arith, g .within)) (g .right))
+            ∙ sym (ap₂ eqb (left-is false low other el eo) (right-is false low other el eo))
+
+        pub first-high : low ≡ other → (high other-high : ℕ) → high ≡ stepAt words level true p → other-high ≡ stepAt words level true q
+            → (r : ℕ) → r ≡ firstFrom (level + 1) high other-high → 2 * r + 1 ≡ firstFrom level p q
+        first-high same high other-high eh eo r e =
+            rw more (ap (λ x. 2 * x + 1) (first-is true high other-high eh eo r e) ∙ sym (down (n - suc level) s level p q true (same-is ∙ eq-eqb low other same)))
+
+        pub first-low : (low ≡ other → ⊥) → (r : ℕ) → r ≡ firstFrom (level + 1) low other → 2 * r ≡ firstFrom level p q
+        first-low ne r e = rw more (ap (λ x. 2 * x) (first-is false low other el eo r e) ∙ sym (down (n - suc level) s level p q false (same-is ∙ ne-eqb low other ne)))

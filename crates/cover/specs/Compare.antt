@@ -8,6 +8,7 @@ use lib.ListN.{length}
 use Rattle.theory.specs.Tree.{Tree}
 use Rattle.theory.specs.Table.{childOf, treeOf, meaning, canon, Good}
 use Rattle.theory.specs.Words.{stride, nodeAt, nodes}
+use Rattle.theory.proofs.Step.{Stands}
 use Rattle.refusal.specs.Limits.{maxMarks, minRoom, maxNodes, maxClauses, plainWork}
 use Rattle.table.specs.Inspection.{SoundTable}
 use Rattle.pool.specs.declared.Noted.{Noted}
@@ -18,14 +19,15 @@ use Rattle.cube.specs.Cube.{clauseAt}
 unfoldable pub stepAt : List ℕ → ℕ → Bool → ℕ → ℕ
 stepAt words level bit p = cond (eqb ((nodeAt words p) .mark) level) (childOf bit (nodeAt words p)) p
 
--- two nodes of a good table
-pub record Paired (n count : ℕ) (words : List ℕ) (p q : ℕ) : Type 0 where
+-- two nodes of a good table, at or below a level
+pub record Paired (n level count : ℕ) (words : List ℕ) (p q : ℕ) : Type 0 where
   pub marks : n ≤ maxMarks
+  pub within : level ≤ n
   pub few : count ≤ 4 * maxNodes
   pub long : stride * count ≤ length words
   pub good : Good n (nodes count words)
-  pub left : p < count
-  pub right : q < count
+  pub left : Stands (nodes count words) level p
+  pub right : Stands (nodes count words) level q
 
 -- a canonical table of made nodes at the front of the pool, a sound table, and room for both
 pub record Comparing (n count : ℕ) (words : List ℕ) (root made : ℕ) (pool memo : List ℕ) : Type 0 where

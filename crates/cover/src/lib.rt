@@ -1,6 +1,6 @@
 // The cover check: whether a list of clauses and a table say the same of every case.
 ghost use mathlib.Core.Path.{_≡_};
-ghost use Prim.Native.Nat.{_+_, _*_, _<_};
+ghost use Prim.Native.Nat.{_+_, _*_, _-_, _<_};
 ghost use lib.ListN.{length};
 ghost use Rattle.theory.specs.Table.{treeOf, meaning};
 ghost use Rattle.theory.specs.Words.{stride, nodes};
@@ -102,25 +102,29 @@ fn next_node(pool: &[u32], level: u16, bit: bool, p: BddPointer) -> BddPointer
     table::low_link_of(pool, p)
 }
 
-// The first case that two nodes of the pool tell apart: low where the low sides are not one node, else high.
-fn first_differing(n: u16, count: u32, pool: &[u32], left: BddPointer, right: BddPointer) -> u64
-    requires { ⌜ Paired n count (now pool) (left .0) (right .0) ⌝ }
-    ensures { λ r. ⌜ r ≡ firstDiffering (treeOf n (nodes count (now (pool .entry))) 0 (left .0)) (treeOf n (nodes count (now (pool .entry))) 0 (right .0)) ⌝ }
+// The first case, from a level on, that two nodes of the pool tell apart: high only where the low sides are one node.
+fn first_differing(
+    n: u16,
+    level: u16,
+    count: u32,
+    pool: &[u32],
+    p: BddPointer,
+    q: BddPointer,
+) -> u64
+    requires { ⌜ Paired n level count (now pool) (p .0) (q .0) ⌝ }
+    ensures { λ r. ⌜ r ≡ firstDiffering (treeOf (n - level) (nodes count (now (pool .entry))) level (p .0)) (treeOf (n - level) (nodes count (now (pool .entry))) level (q .0)) ⌝ }
 {
-    let mut p = left;
-    let mut q = right;
-    let mut case: u64 = 0;
-    let mut level: u16 = 0;
-    while level < n {
-        let low = next_node(pool, level, false, p);
-        let other = next_node(pool, level, false, q);
-        let bit = low.0 == other.0;
-        p = next_node(pool, level, bit, p);
-        q = next_node(pool, level, bit, q);
-        case = valuation::set_bit(case, BddVariable(level), bit);
-        level += 1;
+    if level == n {
+        return 0;
     }
-    case
+    let low = next_node(pool, level, false, p);
+    let other_low = next_node(pool, level, false, q);
+    if low.0 == other_low.0 {
+        let high = next_node(pool, level, true, p);
+        let other_high = next_node(pool, level, true, q);
+        return 2 * first_differing(n, level + 1, count, pool, high, other_high) + 1;
+    }
+    2 * first_differing(n, level + 1, count, pool, low, other_low)
 }
 
 // The given table carried into the pool, behind the canonical one at its front: its root there, and the pool's count.
@@ -170,7 +174,7 @@ fn compare(
     if top.0 == p.0 {
         return Covered::Agrees;
     }
-    Covered::Differs(first_differing(n, total, &*pool, top, p))
+    Covered::Differs(first_differing(n, 0, total, &*pool, top, p))
 }
 
 // The list's table, built in the work and brought to its front, against the given one.
