@@ -33,7 +33,7 @@ pub refused-outcome : (fs : List Finding) → Quiet fs → (count : ℕ) (a : In
 refused-outcome fs quiet count a e r q is-r is-q over place t out work = makes-refused fs over place t quiet q (admission-refused fs count a e r q is-r is-q) out work
 
 -- admitted, it would answer the root
-clean-answers : (fs : List Finding) (count : ℕ) → Clean (judged fs) → gives ((count - 1) ∷ []) ≡ replied (judged fs (rootOf count))
+pub clean-answers : (fs : List Finding) (count : ℕ) → Clean (judged fs) → gives ((count - 1) ∷ []) ≡ replied (judged fs (rootOf count))
 unfolding replied
 clean-answers fs count clean = sym (ap replied (clean (rootOf count)))
 

@@ -16,8 +16,9 @@ use Rattle.theory.proofs.Step.{treeOf-konst}
 use Rattle.theory.proofs.Canon.{constants-good}
 use Rattle.theory.proofs.Again.{walk-konst}
 use Rattle.theory.specs.Clause.{Clause}
+use Rattle.theory.proofs.Cases.{konst-deep}
 use Rattle.cube.specs.Cube.{entryAt, opening, setCube, built, run}
-use Rattle.cube.proofs.Runs.{built-snoc, konst-deep}
+use Rattle.cube.proofs.Runs.{built-snoc}
 use Rattle.chain.specs.Chain.{Zeroed}
 use Rattle.chain.proofs.ChainLaws.{chained-none}
 use Rattle.put.specs.declared.Job.{Job}

@@ -7,19 +7,19 @@ use Prim.Native.Nat.{ℕ, zero, suc, _+_, _*_, _-_, _/_, _%_, _<_, _≤_}
 use native.Mathlib.Omega.{arith}
 use native.Mathlib.Decide.{decLt}
 use lib.ListN.{length, set, length-append}
-use Rattle.theory.specs.Tree.{Tree, fork}
+use Rattle.theory.specs.Tree.{Tree, fork, Deep}
 use Rattle.theory.specs.Table.{Node, node, Table, at, step, treeOf, find, grow, mk, walk, Good}
 use Rattle.theory.specs.Words.{nodeAt, nodes}
-use Rattle.theory.proofs.Step.{Stands, step-here, stands-child, inner, mark-le, treeOf-append}
+use Rattle.theory.proofs.Step.{Stands, step-here, stands-child, inner, mark-le}
 use lib.Seq.{getD-set-same, getD-set-other}
 use Rattle.theory.proofs.Find.{Fresh, Present, grow-cases, mk-other, node-eq}
-use Rattle.theory.proofs.Walk.{Walked, sound, alone, stands-old, at-old, at-new, num-truth, mk-sound}
+use Rattle.theory.proofs.Walk.{Walked, sound, alone, at-old, at-new, num-truth}
 use Rattle.theory.proofs.Words.{length-nodes, at-nodes}
 use Rattle.theory.proofs.Small.{treeOf-deep}
-use Rattle.theory.proofs.Again.{walk-again, walk-grows}
+use Rattle.theory.proofs.Again.{walk-again}
 use Rattle.theory.proofs.Levels.{treeOf-lifted, lifted-walk}
-use Rattle.theory.proofs.Turned.{mk-grows, walk-fork}
-use Rattle.cube.proofs.Cubes.{stays}
+use Rattle.theory.proofs.Turned.{walk-stays}
+use Rattle.theory.proofs.Forks.{low-over, high-over, low-walked, high-walked, fork-is, low-means, node-walked}
 use Rattle.put.specs.Put.{memoBase, word, wordOf}
 use Rattle.pool.specs.Pool.{Holds, Pushing, pushed}
 use Rattle.put.proofs.SettleLaws.{keep-nodes, keep-memo}
@@ -145,18 +145,14 @@ module _ (w out : List ℕ) (g : Goal) (k m a : ℕ) (r : Carrying w out g k m a
   hi-jump : (u : Table) → Good n u → walk u (suc v) hi-tree ≡ carried n s u y
   hi-jump u h = jump n s u h (suc v) y (y-stands .fits) (mark-le n s (r .pool .ordered) y (y-stands .lies))
 
-  sound-lo : Walked n o (n - suc v) (suc v) lo-tree (walk o (suc v) lo-tree)
-  sound-lo = sound n (n - suc v) lo-tree (treeOf-deep (n - suc v) s (suc v) x) (suc v) whole o (r .good)
+  lo-deep : Deep (n - suc v) lo-tree
+  lo-deep = treeOf-deep (n - suc v) s (suc v) x
+
+  hi-deep : Deep (n - suc v) hi-tree
+  hi-deep = treeOf-deep (n - suc v) s (suc v) y
 
   pub full-lo : g .room < length ((carried n s o x) .0) → g .room < length ((carried n s o a) .0)
-  full-lo h =
-      let h′ : g .room < length ((walk o (suc v) lo-tree) .0) = rw (← lo-jump) at h in
-      rw (splits o, walk-fork o v lo-tree hi-tree ((walk o (suc v) lo-tree) .0) ((walk o (suc v) lo-tree) .1) refl)
-      (omega (
-        arith,
-        mk-grows ((walk ((walk o (suc v) lo-tree) .0) (suc v) hi-tree) .0) v ((walk o (suc v) lo-tree) .1) ((walk ((walk o (suc v) lo-tree) .0) (suc v) hi-tree) .1),
-        walk-grows n (n - suc v) hi-tree (treeOf-deep (n - suc v) s (suc v) y) (suc v) whole ((walk o (suc v) lo-tree) .0) (sound-lo .good),
-      ))
+  full-lo h = rw (splits o) (low-over n o (r .good) v v-lt lo-tree hi-tree lo-deep hi-deep _ _ refl (g .room) (rw lo-jump h))
 
   module _ (w₁ out₁ : List ℕ) (p m₁ : ℕ) (nw : length w₁ ≡ length w) (nt : length out₁ ≡ length out) (u : Carried w w₁ out out₁ g k m x p m₁) where
     abbrev o₁ : Table
@@ -166,7 +162,7 @@ module _ (w out : List ℕ) (g : Goal) (k m a : ℕ) (r : Carrying w out g k m a
     is₁ = lo-jump ∙ u .holds .is
 
     sound₁ : Walked n o (n - suc v) (suc v) lo-tree (o₁, p)
-    sound₁ = subst (λ z. Walked n o (n - suc v) (suc v) lo-tree z) is₁ sound-lo
+    sound₁ = low-walked n o (r .good) v v-lt lo-tree hi-tree lo-deep hi-deep o₁ p is₁
 
     pub carrying-hi : Carrying w₁ out₁ g k m₁ y
     carrying-hi = record {
@@ -186,16 +182,11 @@ module _ (w out : List ℕ) (g : Goal) (k m a : ℕ) (r : Carrying w out g k m a
       young = u .young;
     }
 
-    split₁ : carried n s o a ≡ mk ((walk o₁ (suc v) hi-tree) .0) v p ((walk o₁ (suc v) hi-tree) .1)
-    split₁ = splits o ∙ walk-fork o v lo-tree hi-tree o₁ p is₁
-
     hi-same : carried n (nodes k w₁) o₁ y ≡ walk o₁ (suc v) hi-tree
     hi-same = ap (λ (z : Table). carried n z o₁ y) (u .pool) ∙ sym (hi-jump o₁ (sound₁ .good))
 
     pub full-hi : g .room < length ((carried n (nodes k w₁) o₁ y) .0) → g .room < length ((carried n s o a) .0)
-    full-hi h =
-        let h′ : g .room < length ((walk o₁ (suc v) hi-tree) .0) = rw hi-same at h in
-        rw split₁ (omega (arith, mk-grows ((walk o₁ (suc v) hi-tree) .0) v p ((walk o₁ (suc v) hi-tree) .1)))
+    full-hi h = rw (splits o) (high-over n o (r .good) v v-lt lo-tree hi-tree lo-deep hi-deep o₁ p is₁ (g .room) (rw hi-same at h))
 
     module _ (w₂ out₂ : List ℕ) (q m₂ : ℕ) (nw₂ : length w₂ ≡ length w₁) (no₂ : length out₂ ≡ length out₁) (f : Carried w₁ w₂ out₁ out₂ g k m₁ y q m₂) where
       abbrev o₂ : Table
@@ -205,13 +196,10 @@ module _ (w out : List ℕ) (g : Goal) (k m a : ℕ) (r : Carrying w out g k m a
       is₂ = sym hi-same ∙ f .holds .is
 
       sound₂ : Walked n o₁ (n - suc v) (suc v) hi-tree (o₂, q)
-      sound₂ = subst (λ z. Walked n o₁ (n - suc v) (suc v) hi-tree z) is₂ (sound n (n - suc v) hi-tree (treeOf-deep (n - suc v) s (suc v) y) (suc v) whole o₁ (sound₁ .good))
+      sound₂ = high-walked n o (r .good) v v-lt lo-tree hi-tree lo-deep hi-deep o₁ p is₁ o₂ q is₂
 
       split₂ : carried n s o a ≡ mk o₂ v p q
-      split₂ = split₁ ∙ ap (λ (z : Table × ℕ). mk (z .0) v p (z .1)) is₂
-
-      low₂ : Stands o₂ (suc v) p
-      low₂ = subst (λ (z : Table). Stands z (suc v) p) (sym (sound₂ .grown)) (stands-old o₁ (sound₂ .more) (suc v) p (sound₁ .stands))
+      split₂ = splits o ∙ fork-is n o (r .good) v v-lt lo-tree hi-tree lo-deep hi-deep o₁ p is₁ o₂ q is₂
 
       pub pushing : Pushing out₂ (g .room) m₂
       pushing = record { few = r .small; long = omega (arith, r .wide); fits = f .holds .fits }
@@ -224,7 +212,7 @@ module _ (w out : List ℕ) (g : Goal) (k m a : ℕ) (r : Carrying w out g k m a
       still = f .above a y-lt ∙ u .above a x-lt
 
       lo-means : treeOf (n - suc v) o₂ (suc v) p ≡ lo-tree
-      lo-means = ap (λ (z : Table). treeOf (n - suc v) z (suc v) p) (sound₂ .grown) ∙ treeOf-append n o₁ (sound₁ .good .ordered) (sound₂ .more) (n - suc v) (suc v) p whole (sound₁ .stands) ∙ sound₁ .means
+      lo-means = low-means n o (r .good) v v-lt lo-tree hi-tree lo-deep hi-deep o₁ p is₁ o₂ q is₂
 
       -- the two sides differ
       apart : p ≡ q → ⊥
@@ -287,8 +275,7 @@ module _ (w out : List ℕ) (g : Goal) (k m a : ℕ) (r : Carrying w out g k m a
         is₃ = split₂ ∙ h .is
 
         mk₃ : Walked n o₂ (suc (n - suc v)) v (fork (treeOf (n - suc v) o₂ (suc v) p) (treeOf (n - suc v) o₂ (suc v) q)) (o₃, e)
-        mk₃ = subst (λ z. Walked n o₂ (suc (n - suc v)) v (fork (treeOf (n - suc v) o₂ (suc v) p) (treeOf (n - suc v) o₂ (suc v) q)) z) (h .is)
-            (mk-sound n o₂ (sound₂ .good) (n - suc v) v p q whole low₂ (sound₂ .stands))
+        mk₃ = node-walked n o (r .good) v v-lt lo-tree hi-tree lo-deep hi-deep o₁ p is₁ o₂ q is₂ o₃ e (h .is)
 
         pub e-small : e < memoBase
         e-small = omega (arith, mk₃ .stands .lies, length-nodes m₃ out₃, h .fits, r .small)
@@ -301,7 +288,7 @@ module _ (w out : List ℕ) (g : Goal) (k m a : ℕ) (r : Carrying w out g k m a
         old i d lt b =
             let il : (at s i) .mark ≤ n = mark-le n s (r .pool .ordered) i (omega (arith, length-nodes k w)) in
             subst (λ (z : Table). carried n s z i ≡ (z, d)) (sym (mk₃ .grown))
-            (stays n o₂ (mk₃ .more) (sound₂ .good) (subst (Good n) (mk₃ .grown) (mk₃ .good)) (n - (at s i) .mark) ((at s i) .mark) d (treeOf (n - (at s i) .mark) s ((at s i) .mark) i)
+            (walk-stays n o₂ (mk₃ .more) (sound₂ .good) (subst (Good n) (mk₃ .grown) (mk₃ .good)) (n - (at s i) .mark) ((at s i) .mark) d (treeOf (n - (at s i) .mark) s ((at s i) .mark) i)
             (treeOf-deep (n - (at s i) .mark) s ((at s i) .mark) i) (omega arith) b)
 
         new-is : e ≡ m₂

@@ -5,7 +5,7 @@ use mathlib.Core.List.{List}
 use Prim.Native.Nat.{ℕ, _+_, _-_, _*_, _/_, _%_, _^_, _<_, _≤_}
 use lib.ListN.{length, getD}
 use Rattle.theory.specs.Tree.{Tree}
-use Rattle.theory.specs.Table.{Table, node, at, treeOf, truth, walk, constants, canon, Good}
+use Rattle.theory.specs.Table.{Table, at, treeOf, truth, walk, constants, canon, Good}
 use Rattle.theory.specs.Words.{nodes}
 use Rattle.theory.proofs.Step.{Stands}
 use Rattle.theory.specs.Clause.{Clause}

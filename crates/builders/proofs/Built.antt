@@ -16,7 +16,7 @@ use Rattle.theory.proofs.Canon.{canon-means, canon-ordered}
 use Rattle.theory.proofs.Small.{small, treeOf-deep}
 use Rattle.refusal.specs.Number.{NODES, order}
 use Rattle.refusal.specs.Verdict.{Finding, Verdict, refused, answered, firstOf, tried, judged}
-use Rattle.refusal.proofs.Judged.{Clean, judged-answer}
+use Rattle.refusal.proofs.Judged.{Clean, judged-answer, not-answered}
 use Rattle.refusal.proofs.Firsts.{first-before, first-fails}
 use Rattle.making.specs.Made.{makes, tableAnswer}
 use Rattle.cube.specs.Cube.{dnf, cnf, listSays, clauseAt, caseAt, opening}
@@ -79,17 +79,14 @@ smallest-same n f g v same s = record {
 place-is : (k p q : ℕ) → refused k p ≡ refused k q → p ≡ q
 place-is k p q e = cc
 
-not-refused : (k p : ℕ) (vs : List ℕ) (outs : List (List ℕ)) → refused k p ≡ answered vs outs → ⊥
-not-refused k p vs outs e = let z : _≡_ {A = ℕ} 0 1 = cc in omega arith
-
 table-answered : (o : Bool) (p : ℕ) (t : Table) (v : Verdict) (vs : List ℕ) (outs : List (List ℕ)) → v ≡ cond o (refused NODES p) (tableAnswer t) → v ≡ answered vs outs → v ≡ tableAnswer t
-table-answered true p t v vs outs e h = absurd (not-refused NODES p vs outs (sym e ∙ h))
+table-answered true p t v vs outs e h = absurd (not-answered NODES p vs outs (sym e ∙ h))
 table-answered false p t v vs outs e h = e
 
 nodes-refused : (o : Bool) (p : ℕ) (t : Table) (v : Verdict) (q : ℕ) → v ≡ cond o (refused NODES p) (tableAnswer t) → v ≡ refused NODES q → (o ≡ true) × (p ≡ q)
 unfolding tableAnswer
 nodes-refused true p t v q e h = (refl, place-is NODES p q (sym e ∙ h))
-nodes-refused false p t v q e h = absurd (not-refused NODES q _ _ (sym h ∙ e))
+nodes-refused false p t v q e h = absurd (not-answered NODES q _ _ (sym h ∙ e))
 
 not-true : (x : Bool) → not x ≡ true → x ≡ true → ⊥
 not-true x e h = let z : _≡_ {A = ℕ} 0 1 = ap (λ b. cond b 1 0) (sym (ap not h) ∙ e) in omega arith

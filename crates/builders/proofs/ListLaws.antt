@@ -7,7 +7,7 @@ use native.Mathlib.Omega.{arith}
 use lib.Bits.{bitOr}
 use lib.Dec.{eqb, ltb, leb}
 use lib.ListN.{length, getD}
-use borrow.Author.Tests.{leb-false, ltb-false, lt-ltb, le-ltb}
+use borrow.Author.Tests.{leb-false, ltb-false, lt-ltb, le-ltb, not-true}
 use Rattle.theory.specs.Clause.{malformed}
 use Rattle.theory.proofs.Clauses.{formed}
 use Rattle.refusal.specs.Number.{order, LIMIT, SHORT}
@@ -76,18 +76,14 @@ pub number-clause : (cases : Bool) → cases ≡ false → 4 ≡ entryNumber cas
 number-clause cases e = rw e
 
 -- an entry that is not bad has no fixed mark from n up
-not-is : (b : Bool) → not b ≡ true → b ≡ false
-not-is true e = sym e
-not-is false e = refl
-
 pub mask : (cases : Bool) (n : ℕ) (list : List ℕ) (i : ℕ) → not (badEntry cases n list i) ≡ true → (entryAt cases n list i) .fixed < 2 ^ n
 unfolding badEntry
 mask true n list i e = omega (arith, some-marks n)
-mask false n list i e = formed n (clauseAt list i) (not-is _ e) .small
+mask false n list i e = formed n (clauseAt list i) (not-true _ e) .small
 
 case-small : (n : ℕ) (list : List ℕ) (i : ℕ) → not (badEntry true n list i) ≡ true → getD list i 0 < 2 ^ n
 unfolding badEntry overCase
-case-small n list i e = leb-false (2 ^ n) (getD list i 0) (not-is _ e)
+case-small n list i e = leb-false (2 ^ n) (getD list i 0) (not-true _ e)
 
 -- the sizes are in order
 pub record ListSized (cases : Bool) (n count : ℕ) (list : List ℕ) (room : ℕ) (out work : List ℕ) : Type 0 where

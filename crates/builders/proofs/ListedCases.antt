@@ -10,6 +10,7 @@ use lib.ListN.{getD}
 use borrow.Author.Tests.{eq-eqb, ne-eqb}
 use Rattle.theory.specs.Mask.{odd, bit}
 use Rattle.theory.specs.Clause.{Clause, clause}
+use Rattle.theory.proofs.Truths.{or-assoc}
 use Rattle.cube.specs.Cube.{everyMark, someMark, allHold, oneHolds, dnf, cnf, caseAt, opening}
 use Rattle.builders.specs.Builders.{listedCase}
 
@@ -95,11 +96,7 @@ dnf-more n [] x c = go (allHold n x c)
     go : (a : Bool) → a || false ≡ a
     go true = refl
     go false = refl
-dnf-more n (y ∷ xs) x c = ap (λ z. allHold n y c || z) (dnf-more n xs x c) ∙ go (allHold n y c) (dnf n xs c) (allHold n x c)
-  where
-    go : (a b d : Bool) → a || (b || d) ≡ (a || b) || d
-    go true b d = refl
-    go false b d = refl
+dnf-more n (y ∷ xs) x c = ap (λ z. allHold n y c || z) (dnf-more n xs x c) ∙ or-assoc (allHold n y c) (dnf n xs c) (allHold n x c)
 
 cnf-more : (n : ℕ) (xs : List Clause) (x : Clause) (c : ℕ) → cnf n (xs ++ (x ∷ [])) c ≡ cnf n xs c && oneHolds n x c
 unfolding cnf

@@ -11,11 +11,12 @@ use lib.Seq.{getD-set-same, getD-set-other}
 use Rattle.theory.specs.Tree.{Tree, fork, Deep}
 use Rattle.theory.specs.Table.{Node, Table, at, childOf, step, treeOf, truth, num, mk, walk, Good}
 use Rattle.theory.specs.Words.{stride, nodeAt, nodes}
-use Rattle.theory.proofs.Again.{turn, walk-again, walk-grows}
+use Rattle.theory.proofs.Again.{turn, walk-again}
 use Rattle.theory.proofs.Step.{Stands, step-here, stands-child, mark-le}
-use Rattle.theory.proofs.Walk.{Walked, sound, stands-old, mk-sound}
+use Rattle.theory.proofs.Walk.{Walked}
 use Rattle.theory.proofs.Words.{length-nodes, at-nodes}
-use Rattle.theory.proofs.Turned.{turned, turned-deep, turned-bottom, turned-fork, turned-jump, walk-stays, mk-grows, walk-fork}
+use Rattle.theory.proofs.Turned.{turned, turned-deep, turned-bottom, turned-fork, turned-jump, walk-stays}
+use Rattle.theory.proofs.Forks.{low-over, high-over, low-walked, high-walked, fork-is, low-stands, node-walked}
 use Rattle.refusal.specs.Limits.{maxMarks}
 use Rattle.pool.specs.declared.Noted.{Noted}
 use Rattle.pool.specs.declared.Noted.the-variants.{Node as Got, Full}
@@ -126,9 +127,6 @@ module _ (bdd out memo : List ℕ) (w : Way) (k m a : ℕ) (r : Carrying bdd out
     pub y-lt : y < a
     y-lt = rw (parts .high) (to-lt true)
 
-    whole : suc v + (n - suc v) ≡ n
-    whole = omega (arith, v-lt)
-
     abbrev lo-tree : Tree
     lo-tree = along (n - suc v) (suc v) x
 
@@ -160,19 +158,15 @@ module _ (bdd out memo : List ℕ) (w : Way) (k m a : ℕ) (r : Carrying bdd out
     pub carrying-lo : Carrying bdd out memo w k m x
     carrying-lo = record { reading = read-child memo refl x x-lt; pushing = r .pushing; good = r .good; known = r .known }
 
-    sound-lo : Walked n o (n - suc v) (suc v) lo-tree (walk o (suc v) lo-tree)
-    sound-lo = sound n (n - suc v) lo-tree (along-deep (n - suc v) (suc v) x) (suc v) whole o (r .good)
+    lo-deep : Deep (n - suc v) lo-tree
+    lo-deep = along-deep (n - suc v) (suc v) x
+
+    hi-deep : Deep (n - suc v) hi-tree
+    hi-deep = along-deep (n - suc v) (suc v) y
 
     -- a walk over its room stays over it
     pub full-lo : w .room < length ((carried w s o x) .0) → w .room < length ((carried w s o a) .0)
-    full-lo h =
-        let h′ : w .room < length ((walk o (suc v) lo-tree) .0) = rw (jumps o (r .good) x x-stands) h in
-        rw (splits, walk-fork o v lo-tree hi-tree ((walk o (suc v) lo-tree) .0) ((walk o (suc v) lo-tree) .1) refl)
-        (omega (
-          arith,
-          mk-grows ((walk ((walk o (suc v) lo-tree) .0) (suc v) hi-tree) .0) v ((walk o (suc v) lo-tree) .1) ((walk ((walk o (suc v) lo-tree) .0) (suc v) hi-tree) .1),
-          walk-grows n (n - suc v) hi-tree (along-deep (n - suc v) (suc v) y) (suc v) whole ((walk o (suc v) lo-tree) .0) (sound-lo .good),
-        ))
+    full-lo h = rw splits (low-over n o (r .good) v v-lt lo-tree hi-tree lo-deep hi-deep _ _ refl (w .room) (rw (jumps o (r .good) x x-stands) h))
 
     module _ (out₁ memo₁ : List ℕ) (p m₁ : ℕ) (same-out : length out₁ ≡ length out) (same-memo : length memo₁ ≡ length memo) (u : Carried bdd out out₁ memo₁ w k m x p m₁) where
       abbrev o₁ : Table
@@ -182,7 +176,7 @@ module _ (bdd out memo : List ℕ) (w : Way) (k m a : ℕ) (r : Carrying bdd out
       is₁ = jumps o (r .good) x x-stands ∙ u .holds .is
 
       sound₁ : Walked n o (n - suc v) (suc v) lo-tree (o₁, p)
-      sound₁ = subst (λ z. Walked n o (n - suc v) (suc v) lo-tree z) is₁ sound-lo
+      sound₁ = low-walked n o (r .good) v v-lt lo-tree hi-tree lo-deep hi-deep o₁ p is₁
 
       pub carrying-hi : Carrying bdd out₁ memo₁ w k m₁ y
       carrying-hi = record {
@@ -192,13 +186,8 @@ module _ (bdd out memo : List ℕ) (w : Way) (k m a : ℕ) (r : Carrying bdd out
         known = u .known;
       }
 
-      split₁ : carried w s o a ≡ mk ((walk o₁ (suc v) hi-tree) .0) v p ((walk o₁ (suc v) hi-tree) .1)
-      split₁ = splits ∙ walk-fork o v lo-tree hi-tree o₁ p is₁
-
       pub full-hi : w .room < length ((carried w s o₁ y) .0) → w .room < length ((carried w s o a) .0)
-      full-hi h =
-          let h′ : w .room < length ((walk o₁ (suc v) hi-tree) .0) = rw (jumps o₁ (sound₁ .good) y y-stands) h in
-          rw split₁ (omega (arith, mk-grows ((walk o₁ (suc v) hi-tree) .0) v p ((walk o₁ (suc v) hi-tree) .1)))
+      full-hi h = rw splits (high-over n o (r .good) v v-lt lo-tree hi-tree lo-deep hi-deep o₁ p is₁ (w .room) (rw (jumps o₁ (sound₁ .good) y y-stands) h))
 
       module _ (out₂ memo₂ : List ℕ) (q m₂ : ℕ) (same-out₂ : length out₂ ≡ length out₁) (same-memo₂ : length memo₂ ≡ length memo₁) (f : Carried bdd out₁ out₂ memo₂ w k m₁ y q m₂) where
         abbrev o₂ : Table
@@ -208,20 +197,17 @@ module _ (bdd out memo : List ℕ) (w : Way) (k m a : ℕ) (r : Carrying bdd out
         is₂ = jumps o₁ (sound₁ .good) y y-stands ∙ f .holds .is
 
         sound₂ : Walked n o₁ (n - suc v) (suc v) hi-tree (o₂, q)
-        sound₂ = subst (λ z. Walked n o₁ (n - suc v) (suc v) hi-tree z) is₂ (sound n (n - suc v) hi-tree (along-deep (n - suc v) (suc v) y) (suc v) whole o₁ (sound₁ .good))
+        sound₂ = high-walked n o (r .good) v v-lt lo-tree hi-tree lo-deep hi-deep o₁ p is₁ o₂ q is₂
 
         split₂ : carried w s o a ≡ mk o₂ v p q
-        split₂ = split₁ ∙ ap (λ (z : Table × ℕ). mk (z .0) v p (z .1)) is₂
-
-        low₂ : Stands o₂ (suc v) p
-        low₂ = subst (λ (z : Table). Stands z (suc v) p) (sym (sound₂ .grown)) (stands-old o₁ (sound₂ .more) (suc v) p (sound₁ .stands))
+        split₂ = splits ∙ fork-is n o (r .good) v v-lt lo-tree hi-tree lo-deep hi-deep o₁ p is₁ o₂ q is₂
 
         pub noding : Noding out₂ n (w .room) m₂ v p q
         noding = record {
           pushing = record { few = r .pushing .few; long = omega (arith, r .pushing .long); fits = f .holds .fits };
           good = sound₂ .good;
           level = v-lt;
-          low = low₂;
+          low = low-stands n o (r .good) v v-lt lo-tree hi-tree lo-deep hi-deep o₁ p is₁ o₂ q is₂;
           high = sound₂ .stands;
         }
 
@@ -236,9 +222,7 @@ module _ (bdd out memo : List ℕ) (w : Way) (k m a : ℕ) (r : Carrying bdd out
           is₃ = split₂ ∙ h .is
 
           mk₃ : Walked n o₂ (suc (n - suc v)) v (fork (treeOf (n - suc v) o₂ (suc v) p) (treeOf (n - suc v) o₂ (suc v) q)) (o₃, e)
-          mk₃ =
-              subst (λ z. Walked n o₂ (suc (n - suc v)) v (fork (treeOf (n - suc v) o₂ (suc v) p) (treeOf (n - suc v) o₂ (suc v) q)) z) (h .is)
-              (mk-sound n o₂ (sound₂ .good) (n - suc v) v p q whole low₂ (sound₂ .stands))
+          mk₃ = node-walked n o (r .good) v v-lt lo-tree hi-tree lo-deep hi-deep o₁ p is₁ o₂ q is₂ o₃ e (h .is)
 
           -- the node itself is found again, and so is what was known
           again : carried w s o₃ a ≡ (o₃, e)

@@ -14,7 +14,7 @@ use Rattle.theory.proofs.Again.{room-canon}
 use Rattle.theory.proofs.Canon.{constants-good}
 use Rattle.theory.proofs.Cases.{cofactor-deep}
 use Rattle.theory.proofs.Step.{mark-le}
-use Rattle.theory.proofs.Small.{treeOf-deep}
+use Rattle.theory.proofs.Small.{meaning-deep}
 use Rattle.theory.proofs.Words.{length-nodes, at-nodes}
 use Rattle.theory.proofs.Walk.{Walked, sound}
 use Rattle.theory.proofs.Turned.{turned, turned-whole, turned-jump, mapped-deep, mapped-same, cofactor-past}
@@ -74,8 +74,7 @@ module _ (bdd out memo : List ℕ) (w : Way) (count root : ℕ) (g : Placing bdd
     is-meaning = ap (treeOf n s 0) (omega (arith, length-nodes count bdd, g .table .last))
 
     deep : Deep n (along w s)
-    unfolding meaning
-    deep = mapped-deep (flip (w .exchange)) n _ (cofactor-deep n (w .variable .0) (w .value) (meaning n s) (treeOf-deep n s 0 (length s - 1)))
+    deep = mapped-deep (flip (w .exchange)) n _ (cofactor-deep n (w .variable .0) (w .value) (meaning n s) (meaning-deep n s))
 
     is-walk : carried w s (nodes 2 out₁) root ≡ walk (constants n) 0 (along w s)
     is-walk =
@@ -132,19 +131,15 @@ module _ (bdd out memo : List ℕ) (w : Way) (count root : ℕ) (g : Placing bdd
 
 -- the three ways
 module _ (n : ℕ) (s : Table) where
-  is-deep : Deep n (meaning n s)
-  unfolding meaning
-  is-deep = treeOf-deep n s 0 (length s - 1)
-
   pub same-function : (v : Bool) → mapped (flip false) (cofactor n v (meaning n s)) ≡ meaning n s
-  same-function v = mapped-same (cofactor n v (meaning n s)) ∙ cofactor-past n n v (meaning n s) is-deep (omega arith)
+  same-function v = mapped-same (cofactor n v (meaning n s)) ∙ cofactor-past n n v (meaning n s) (meaning-deep n s) (omega arith)
 
   module _ (room : ℕ) (out : List ℕ) (tabled : Tabled) where
     pub as-reduced : (v : Bool) → CanonLeft n room (mapped (flip false) (cofactor n v (meaning n s))) out tabled → CanonLeft n room (meaning n s) out tabled
     as-reduced v = subst (λ t. CanonLeft n room t out tabled) (same-function v)
 
     pub as-exchanged : (v : Bool) → CanonLeft n room (mapped (flip true) (cofactor n v (meaning n s))) out tabled → CanonLeft n room (mapped not (meaning n s)) out tabled
-    as-exchanged v = subst (λ t. CanonLeft n room (mapped not t) out tabled) (cofactor-past n n v (meaning n s) is-deep (omega arith))
+    as-exchanged v = subst (λ t. CanonLeft n room (mapped not t) out tabled) (cofactor-past n n v (meaning n s) (meaning-deep n s) (omega arith))
 
     pub as-restricted : (x : ℕ) (v : Bool) → CanonLeft n room (mapped (flip false) (cofactor x v (meaning n s))) out tabled → CanonLeft n room (cofactor x v (meaning n s)) out tabled
     as-restricted x v = subst (λ t. CanonLeft n room t out tabled) (mapped-same (cofactor x v (meaning n s)))

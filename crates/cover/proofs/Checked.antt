@@ -10,11 +10,11 @@ use Rattle.theory.specs.Tree.{Tree, Deep, look, sameTree}
 use Rattle.theory.specs.Table.{Table, meaning}
 use Rattle.theory.specs.Words.{nodes}
 use Rattle.theory.proofs.Cases.{look-tabulate}
-use Rattle.theory.proofs.Small.{treeOf-deep}
+use Rattle.theory.proofs.Small.{meaning-deep}
 use Rattle.theory.proofs.Support.{same-equal}
 use Rattle.refusal.specs.Number.{NODES}
 use Rattle.refusal.specs.Verdict.{Finding, Verdict, refused, answered, judged, Reply, gives}
-use Rattle.refusal.proofs.Judged.{Clean, judged-answer}
+use Rattle.refusal.proofs.Judged.{Clean, judged-answer, not-answered}
 use Rattle.refusal.proofs.Single.{OneToOne, Single, single, no-values, refusal-single}
 use Rattle.table.specs.Case.{tableSays}
 use Rattle.making.specs.Made.{tableAnswer}
@@ -55,9 +55,6 @@ not-both c e = let z : _≡_ {A = ℕ} 0 1 = cc in omega arith
 case-is : (c d : ℕ) → difference c ≡ difference d → c ≡ d
 case-is c d e = cc
 
-not-refused : (k p : ℕ) (vs : List ℕ) (outs : List (List ℕ)) → refused k p ≡ answered vs outs → ⊥
-not-refused k p vs outs e = let z : _≡_ {A = ℕ} 0 1 = cc in omega arith
-
 module _ (t u : Tree) where
   answer-cases : (v : Verdict) → v ≡ coverAnswer t u → ((sameTree t u ≡ true) × (v ≡ agreement)) ⊎ ((sameTree t u ≡ false) × (v ≡ difference (firstDiffering t u)))
   unfolding coverAnswer
@@ -89,7 +86,7 @@ module _ (t u : Tree) where
 
 -- ---- the runs' room
 past : (over : Bool) (place : ℕ) (answer v : Verdict) (vs : List ℕ) (outs : List (List ℕ)) → v ≡ cond over (refused NODES place) answer → v ≡ answered vs outs → v ≡ answer
-past true place answer v vs outs e h = absurd (not-refused NODES place vs outs (sym e ∙ h))
+past true place answer v vs outs e h = absurd (not-answered NODES place vs outs (sym e ∙ h))
 past false place answer v vs outs e h = e
 
 -- whatever the answer would be, it is refused for nodes alike
@@ -99,13 +96,13 @@ alike false place q answer other never e = absurd (never e)
 
 answer-never : (t u : Tree) (q : ℕ) → coverAnswer t u ≡ refused NODES q → ⊥
 answer-never t u q e = elim (answer-cases t u (coverAnswer t u) refl) [
-  | inl h ↦ not-refused NODES q _ _ (sym e ∙ h .1)
-  | inr h ↦ not-refused NODES q _ _ (sym e ∙ h .1)
+  | inl h ↦ not-answered NODES q _ _ (sym e ∙ h .1)
+  | inr h ↦ not-answered NODES q _ _ (sym e ∙ h .1)
 ]
 
 table-never : (s : Table) (q : ℕ) → tableAnswer s ≡ refused NODES q → ⊥
 unfolding tableAnswer
-table-never s q e = not-refused NODES q _ _ (sym e)
+table-never s q e = not-answered NODES q _ _ (sym e)
 
 -- ---- the check, for any input at all
 module _ (n count : ℕ) (words : List ℕ) (clauses : ℕ) (list : List ℕ) (room : ℕ) (work : List ℕ) where
@@ -125,10 +122,6 @@ module _ (n count : ℕ) (words : List ℕ) (clauses : ℕ) (list : List ℕ) (r
 
   t-deep : Deep n (runMeans true n (clauseAt list) clauses)
   t-deep = means-deep true n (opening (clauseAt list) clauses)
-
-  u-deep : Deep n (meaning n (nodes count words))
-  unfolding meaning
-  u-deep = treeOf-deep n (nodes count words) 0 (length (nodes count words) - 1)
 
   says : (case : ℕ) → case < 2 ^ n → look (runMeans true n (clauseAt list) clauses) case ≡ listed case
   says = look-tabulate n listed
@@ -150,7 +143,7 @@ module _ (n count : ℕ) (words : List ℕ) (clauses : ℕ) (list : List ℕ) (r
     -- it says that they agree exactly if they say the same of every case
     pub agrees : (verdict ≡ agreement) ↔ ((case : ℕ) → case < 2 ^ n → listed case ≡ tableSays n count words case)
     agrees =
-        let same = compared-same (runMeans true n (clauseAt list) clauses) (meaning n (nodes count words)) n t-deep u-deep verdict compared in (
+        let same = compared-same (runMeans true n (clauseAt list) clauses) (meaning n (nodes count words)) n t-deep (meaning-deep n (nodes count words)) verdict compared in (
           (λ a case h. sym (says case h) ∙ same .0 a case h),
           (λ s. same .1 (λ case h. says case h ∙ s case h)),
         )
@@ -158,7 +151,7 @@ module _ (n count : ℕ) (words : List ℕ) (clauses : ℕ) (list : List ℕ) (r
     -- it says that they differ at a case exactly if that is the first in which they do, in the order that compares mark 0 first, 0 before 1
     pub differs : (c : ℕ) → (verdict ≡ difference c) ↔ First n listed (tableSays n count words) c
     differs c =
-        let first = compared-first (runMeans true n (clauseAt list) clauses) (meaning n (nodes count words)) n t-deep u-deep verdict compared c in (
+        let first = compared-first (runMeans true n (clauseAt list) clauses) (meaning n (nodes count words)) n t-deep (meaning-deep n (nodes count words)) verdict compared c in (
           (λ a. first-same n _ _ _ _ says (λ d h. refl) c (first .0 a)),
           (λ f. first .1 (first-same n _ _ _ _ (λ d h. sym (says d h)) (λ d h. refl) c f)),
         )

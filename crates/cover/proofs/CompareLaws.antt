@@ -8,14 +8,14 @@ use native.Mathlib.Omega.{arith}
 use lib.Dec.{eqb}
 use lib.ListN.{length, take, length-append}
 use borrow.Author.Tests.{eq-eqb, ne-eqb}
-use Rattle.theory.specs.Tree.{Tree, Deep, sameTree, mapped, cofactor}
-use Rattle.theory.specs.Table.{Node, node, Table, at, treeOf, meaning, walk, constants, cut, canon, Good}
+use Rattle.theory.specs.Tree.{Tree, sameTree, mapped, cofactor}
+use Rattle.theory.specs.Table.{Node, Table, at, treeOf, meaning, walk, constants, cut, canon, Good}
 use Rattle.theory.specs.Words.{stride, nodeAt, nodes}
 use Rattle.theory.proofs.Step.{Stands, treeOf-append}
 use Rattle.theory.proofs.Find.{node-eq}
 use Rattle.theory.proofs.Walk.{Walked, sound}
 use Rattle.theory.proofs.Canon.{Canonical, canonical, canon-ordered}
-use Rattle.theory.proofs.Small.{treeOf-deep}
+use Rattle.theory.proofs.Small.{meaning-deep}
 use Rattle.theory.proofs.Words.{length-nodes, at-nodes}
 use Rattle.refusal.specs.Limits.{maxMarks}
 use Rattle.refusal.specs.Buffers.{padded}
@@ -51,20 +51,12 @@ module _ (n count : ℕ) (words : List ℕ) (root made : ℕ) (pool memo : List 
   abbrev u : Tree
   u = meaning n s
 
-  t-deep : Deep n t
-  unfolding meaning
-  t-deep = treeOf-deep n (nodes made pool) 0 (length (nodes made pool) - 1)
-
   whole : treeOf n s 0 root ≡ u
   unfolding meaning
   whole = ap (treeOf n s 0) (omega (arith, length-nodes count words, g .table .last))
 
-  u-deep : Deep n u
-  unfolding meaning
-  u-deep = treeOf-deep n s 0 (length s - 1)
-
   pub made-some : 1 ≤ made
-  made-some = omega (arith, ap length (g .canonical), length-nodes made pool, canon-ordered n t t-deep .some)
+  made-some = omega (arith, ap length (g .canonical), length-nodes made pool, canon-ordered n t (meaning-deep n (nodes made pool)) .some)
 
   lies : root < length s
   lies = omega (arith, length-nodes count words, g .table .last, g .table .some)
@@ -98,12 +90,12 @@ module _ (n count : ℕ) (words : List ℕ) (root made : ℕ) (pool memo : List 
     is-cut = g .canonical
 
     held-is : (nodes (max made 2) pool₁ ≡ (walk (constants n) 0 t) .0) × (made - 1 ≡ (walk (constants n) 0 t) .1)
-    held-is = holds (walk (constants n) 0 t) (canonical n t t-deep) is-cut
+    held-is = holds (walk (constants n) 0 t) (canonical n t (meaning-deep n (nodes made pool))) is-cut
 
     walked : Walked n (constants n) n 0 t (nodes (max made 2) pool₁, made - 1)
     walked =
         let pair : walk (constants n) 0 t ≡ (nodes (max made 2) pool₁, made - 1) = λ i. (sym (held-is .0) i, sym (held-is .1) i) in
-        subst (λ z. Walked n (constants n) n 0 t z) pair (canonical n t t-deep .sound)
+        subst (λ z. Walked n (constants n) n 0 t z) pair (canonical n t (meaning-deep n (nodes made pool)) .sound)
 
     module _ (held : ℕ) (is : held ≡ max made 2) (memo₁ : List ℕ) (empty : memo₁ ≡ padded (take 0 memo) (length memo)) (same-memo : length memo₁ ≡ length memo) where
       abbrev o : Table
@@ -145,7 +137,7 @@ module _ (n count : ℕ) (words : List ℕ) (root made : ℕ) (pool memo : List 
       module _ (pool₂ memo₂ : List ℕ) (same₂ : length pool₂ ≡ length pool₁) where
         pub brings : (answer : Noted) → Carries words pool₁ pool₂ memo₂ way count held root answer → Brings n t u made pool₂ answer
         brings (Got p m) c =
-            let after : Walked n o n 0 u (nodes m pool₂, p .0) = subst (λ z. Walked n o n 0 u z) (sym is-walk ∙ c .holds .is) (sound n n u u-deep 0 (omega arith) o (start .good)) in
+            let after : Walked n o n 0 u (nodes m pool₂, p .0) = subst (λ z. Walked n o n 0 u z) (sym is-walk ∙ c .holds .is) (sound n n u (meaning-deep n s) 0 (omega arith) o (start .good)) in
             let longer : m ≡ held + length (after .more) = omega (arith, ap length (after .grown), length-append o (after .more), length-nodes m pool₂, length-nodes held pool₁) in
             record {
               few = omega (arith, c .holds .fits, g .few, g .table .few);

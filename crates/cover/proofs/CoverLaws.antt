@@ -17,7 +17,7 @@ use Rattle.refusal.specs.Limits.{maxNodes}
 use Rattle.refusal.specs.Buffers.{padded, zeroing, bufferAfter, workAfter}
 use Rattle.refusal.specs.Verdict.{Verdict, refused, answered, firstOf, tried, judged, replied, refusedWith, refusalReply}
 use Rattle.refusal.specs.declared.Refusal.{Refusal}
-use Rattle.refusal.proofs.Judged.{Clean, refused-quiet}
+use Rattle.refusal.proofs.Judged.{Clean, refused-quiet, work-untouched}
 use Rattle.table.specs.declared.BddPointer.{BddPointer}
 use Rattle.table.specs.declared.Inspection.{Inspection}
 use Rattle.table.specs.declared.Inspection.the-variants.{Sound, Refused}
@@ -133,16 +133,12 @@ covers-zero n count words clauses list room work =
 
 module _ (n count : ℕ) (words : List ℕ) (clauses : ℕ) (list : List ℕ) (room : ℕ) (work : List ℕ) (a : Inspection)
     (e : inspectionReply a ≡ replied (judged (coverFindings n count words clauses list room work) (rootOf count))) where
-  untouched : (q : Refusal) (v : Verdict) → v ≡ refused (q .number) (q .place) → zeroing (q .number) ≡ false → (refusalReply q ≡ replied v) × (work ≡ workAfter v work)
-  unfolding replied bufferAfter
-  untouched q v is quiet = rw is (refl, rw quiet)
-
   pub cover-refused : (r q : Refusal) → a ≡ Refused r → q ≡ refusalIn a
       → (refusalReply q ≡ replied (checksCover n count words clauses list room work)) × (work ≡ workAfter (checksCover n count words clauses list room work) work)
   unfolding checksCover
   cover-refused r q is-r is-q =
       let stays : (v : Verdict) → judged (coverFindings n count words clauses list room work) v ≡ refused (q .number) (q .place) = admission-refused (coverFindings n count words clauses list room work) count a e r q is-r is-q in
-      untouched q _ (stays _) (refused-quiet [] [] (q .number) (q .place) (coverFindings n count words clauses list room work) (cover-quiet n count words clauses list room work) (stays (answered [] [])))
+      work-untouched q _ work (stays _) (refused-quiet [] [] (q .number) (q .place) (coverFindings n count words clauses list room work) (cover-quiet n count words clauses list room work) (stays (answered [] [])))
 
   module _ (p : BddPointer) (is : a ≡ Sound p) where
     pub cover-ready : (memory : List ℕ) → stride * maxNodes ≤ length memory → Covering n count words (p .0) clauses list room memory work

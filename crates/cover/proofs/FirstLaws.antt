@@ -1,7 +1,7 @@
 -- The first case that two functions tell apart, in the order that compares mark 0 first.
 use mathlib.Core.Path.{_≡_, refl, sym, ap, _∙_}
 use mathlib.Core.Logic.{_≢_, _⊎_, inl, inr}
-use mathlib.Core.Bool.{Bool, true, false, cond, _&&_, Bool·beq}
+use mathlib.Core.Bool.{Bool, true, false, cond, _&&_, Bool·beq, true≢false}
 use Prim.Native.Nat.{ℕ, zero, suc, _+_, _*_, _^_, _<_}
 use native.Mathlib.Omega.{arith}
 use Rattle.theory.specs.Tree.{Tree, leaf, fork, Deep, look, sameTree}
@@ -71,9 +71,6 @@ first-one k f g c d a b = elim (told k c d (a .small) (b .small)) [
 ]
 
 -- ---- the descent
-clash : true ≡ false → ⊥
-clash e = let z : _≡_ {A = ℕ} 1 0 = ap (λ b. cond b 1 0) e in omega arith
-
 module _ (k : ℕ) (lo hi lo′ hi′ : Tree) where
   go-low : (c : ℕ) → First k (look lo) (look lo′) c → First (suc k) (look (fork lo hi)) (look (fork lo′ hi′)) (2 * c)
   go-low c f = record {
@@ -82,7 +79,7 @@ module _ (k : ℕ) (lo hi lo′ hi′ : Tree) where
     before =
         by-bit (λ d. d < 2 ^ suc k → earlier (suc k) d (2 * c) ≡ true → look (fork lo hi) d ≡ look (fork lo′ hi′) d)
         (λ d h e. look-even lo hi d ∙ f .before d (omega arith) (sym (earlier-low k d c) ∙ e) ∙ sym (look-even lo′ hi′ d))
-        (λ d h e. absurd (clash (sym e ∙ earlier-down k d c)));
+        (λ d h e. absurd (true≢false (sym e ∙ earlier-down k d c)));
   }
 
   go-high : lo ≡ lo′ → (c : ℕ) → First k (look hi) (look hi′) c → First (suc k) (look (fork lo hi)) (look (fork lo′ hi′)) (2 * c + 1)
@@ -97,13 +94,13 @@ module _ (k : ℕ) (lo hi lo′ hi′ : Tree) where
 
 leaf-first : (a b : Bool) → Bool·beq a b ≡ false → First 0 (look (leaf a)) (look (leaf b)) 0
 unfolding look earlier
-leaf-first a b e = record { small = omega arith; differ = differ a b e; before = λ d h z. absurd (clash (sym z)) }
+leaf-first a b e = record { small = omega arith; differ = differ a b e; before = λ d h z. absurd (true≢false (sym z)) }
   where
     differ : (a b : Bool) → Bool·beq a b ≡ false → a ≢ b
-    differ true true e d = clash e
-    differ true false e d = clash d
-    differ false true e d = clash (sym d)
-    differ false false e d = clash e
+    differ true true e d = true≢false e
+    differ true false e d = true≢false d
+    differ false true e d = true≢false (sym d)
+    differ false false e d = true≢false e
 
 -- functions that are not the same are first told apart there
 pub first-is : (k : ℕ) (t u : Tree) → Deep k t → Deep k u → sameTree t u ≡ false → First k (look t) (look u) (firstDiffering t u)

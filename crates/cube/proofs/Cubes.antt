@@ -1,5 +1,5 @@
 -- The tree with a cube set, and the walk over it.
-use mathlib.Core.Path.{_≡_, refl, sym, ap, ap₂, subst, _∙_}
+use mathlib.Core.Path.{_≡_, refl, sym, ap, ap₂, _∙_}
 use mathlib.Core.Bool.{Bool, true, false, cond, not, _&&_, _||_, Bool·beq}
 use mathlib.Core.List.{_++_}
 use Prim.Native.Nat.{ℕ, zero, suc, _+_, _/_, _%_, _^_, _-_, _<_, _≤_}
@@ -9,7 +9,7 @@ use Rattle.theory.specs.Tree.{Tree, leaf, fork, Deep, look, konst}
 use Rattle.theory.specs.Mask.{odd}
 use Rattle.theory.specs.Table.{Node, Table, at, step, treeOf, truth, num, walk, Ordered, Good}
 use Rattle.theory.proofs.Step.{Stands, step-skip, treeOf-append, treeOf-konst}
-use Rattle.theory.proofs.Walk.{Walked, sound, found, stands-old}
+use Rattle.theory.proofs.Walk.{found}
 use Rattle.theory.proofs.Small.{treeOf-deep}
 use Rattle.theory.proofs.Again.{walk-skip, walk-konst}
 use Rattle.cube.specs.Cube.{setCube, allAre, part}
@@ -129,12 +129,3 @@ module _ (b : Bool) (f v : ℕ) where
   -- more nodes change nothing
   pub part-append : (n : ℕ) (s : Table) → Ordered n s → (u : Table) (k l a : ℕ) (off : Bool) → l + k ≡ n → Stands s l a → part b f v (s ++ u) k l a off ≡ part b f v s k l a off
   part-append n s o u k l a off e h = ap (λ t. cond off t (setCube b (f / 2 ^ l) (v / 2 ^ l) t)) (treeOf-append n s o u k l a e h)
-
--- what walk finds in a table it finds in a larger one
-pub stays : (n : ℕ) (s u : Table) → Good n s → Good n (s ++ u) → (k l p : ℕ) (t : Tree) → Deep k t → l + k ≡ n → walk s l t ≡ (s, p) → walk (s ++ u) l t ≡ (s ++ u, p)
-stays n s u g g′ k l p t d e w = go (subst (λ r. Walked n s k l t r) w (sound n k t d l e s g))
-  where
-    go : Walked n s k l t (s, p) → walk (s ++ u) l t ≡ (s ++ u, p)
-    go a =
-        ap (walk (s ++ u) l) (sym (a .means) ∙ sym (treeOf-append n s (g .ordered) u k l p e (a .stands)))
-        ∙ found n (s ++ u) g′ k l p e (stands-old s u l p (a .stands))

@@ -6,22 +6,10 @@ use Prim.Native.Nat.{ℕ, zero, suc, _+_, _/_, _-_}
 use Rattle.theory.specs.Tree.{Tree, Deep, look, konst, tabulate}
 use Rattle.theory.specs.Mask.{odd, bit}
 use Rattle.theory.specs.Clause.{Clause, clause}
-use Rattle.theory.proofs.Cases.{look-ext, look-tabulate, tabulate-deep}
+use Rattle.theory.proofs.Truths.{beq-one}
+use Rattle.theory.proofs.Cases.{konst-deep, konst-look, look-ext, look-tabulate, tabulate-deep}
 use Rattle.cube.specs.Cube.{everyMark, someMark, allHold, oneHolds, dnf, cnf, listSays, listMeans, setCube, allAre, run, built}
 use Rattle.cube.proofs.Cubes.{set-deep, set-look}
-
-pub konst-deep : (k : ℕ) (b : Bool) → Deep k (konst k b)
-unfolding konst
-konst-deep zero b = tt
-konst-deep (suc k) b = (konst-deep k b, konst-deep k b)
-
-konst-look : (k : ℕ) (b : Bool) (c : ℕ) → look (konst k b) c ≡ b
-unfolding konst look
-konst-look zero b c = refl
-konst-look (suc k) b c = elim (odd c) as (λ x. cond x (look (konst k b) (c / 2)) (look (konst k b) (c / 2)) ≡ b) [
-  | true ↦ konst-look k b (c / 2)
-  | false ↦ konst-look k b (c / 2)
-]
 
 pub run-deep : (b : Bool) (k : ℕ) (t : Tree) (xs : List Clause) → Deep k t → Deep k (run b t xs)
 unfolding run
@@ -46,11 +34,7 @@ built-snoc b n xs x = run-snoc b (konst n (not b)) xs x
 pub all-hold : (n f v c : ℕ) → allAre true n f v c ≡ allHold n (clause f v) c
 unfolding allAre allHold everyMark bit
 all-hold zero f v c = refl
-all-hold (suc n) f v c = ap₂ (λ x y. (not (odd f) || x) && y) (same (Bool·beq (odd v) (odd c))) (all-hold n (f / 2) (v / 2) (c / 2))
-  where
-    same : (x : Bool) → Bool·beq x true ≡ x
-    same true = refl
-    same false = refl
+all-hold (suc n) f v c = ap₂ (λ x y. (not (odd f) || x) && y) (beq-one (Bool·beq (odd v) (odd c))) (all-hold n (f / 2) (v / 2) (c / 2))
 
 pub one-holds : (n f v c : ℕ) → not (allAre false n f v c) ≡ oneHolds n (clause f v) c
 unfolding allAre oneHolds someMark bit

@@ -4,7 +4,7 @@ use mathlib.Core.List.{List, [], _∷_}
 use Prim.Native.Nat.{ℕ, _-_, _^_, _<_}
 use lib.ListN.{length}
 use Rattle.theory.specs.Tree.{Tree, Deep, look, caseCount, tally}
-use Rattle.theory.specs.Table.{Table, num, says, follow, truth, meaning, canon, treeOf}
+use Rattle.theory.specs.Table.{Table, num, follow, truth, meaning, canon, treeOf}
 use Rattle.theory.specs.Words.{nodes}
 use Rattle.theory.proofs.Cases.{says-look, says-follow, caseCount-tally}
 use Rattle.theory.proofs.Canon.{canon-means}

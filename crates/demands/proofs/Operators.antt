@@ -12,6 +12,7 @@ use Rattle.theory.specs.Words.{nodes}
 use Rattle.theory.proofs.Cases.{cofactor-deep, cofactor-look}
 use Rattle.theory.proofs.Support.{Depends}
 use Rattle.theory.proofs.Turned.{mapped-deep, mapped-look}
+use Rattle.theory.proofs.Small.{meaning-deep}
 use Rattle.refusal.specs.Counted.{countedReply}
 use Rattle.refusal.specs.Verdict.{answered}
 use Rattle.refusal.proofs.Single.{Single, single, counted-one}
@@ -21,7 +22,7 @@ use Rattle.making.proofs.MakesLaws.{made-one}
 use Rattle.admission.specs.Admission.{tableRoomFindings, markFindings, pairFindings}
 use Rattle.admission.proofs.Admitted.{room-quiet, mark-quiet}
 use Rattle.operators.specs.Operators.{makesAnd, makesOr, makesAndNot, makesForAll, makesExists}
-use Rattle.operators.proofs.OperatesLaws.{Operated, meaning-deep, operated}
+use Rattle.operators.proofs.OperatesLaws.{Operated, operated}
 use Rattle.operators.proofs.Operated as of
 use Rattle.unary.specs.Unary.{marksReply, negates, restricts, supports, countsCases}
 use Rattle.unary.proofs.MarkLaws.{marks-one}

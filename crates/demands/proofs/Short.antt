@@ -7,10 +7,9 @@ use Prim.Native.Nat.{ℕ, _-_, _≤_, _<_}
 use lib.Dec.{ltb}
 use lib.ListN.{length}
 use borrow.Author.Tests.{lt-ltb, le-ltb}
-use Rattle.theory.specs.Tree.{Deep}
 use Rattle.theory.specs.Table.{meaning}
 use Rattle.theory.specs.Words.{nodes}
-use Rattle.theory.proofs.Small.{treeOf-deep}
+use Rattle.theory.proofs.Small.{meaning-deep}
 use Rattle.refusal.specs.Number.{NODES, CLAUSES, order}
 use Rattle.refusal.specs.Verdict.{refused, answered, judged, tried, firstOf}
 use Rattle.refusal.proofs.Judged.{Clean}
@@ -26,16 +25,12 @@ use Rattle.lists.proofs.Listed.{listIn}
 use Rattle.short.specs.Short.{shortFindings, shortOvers, listsShort}
 
 module _ (n count : ℕ) (words : List ℕ) (room : ℕ) (out work : List ℕ) where
-  deep : Deep n (meaning n (nodes count words))
-  unfolding meaning
-  deep = treeOf-deep n (nodes count words) 0 (length (nodes count words) - 1)
-
   -- the short list says yes exactly where the table does
   pub short-says : (k : ℕ) (result : List ℕ) → listsShort n count words room out work ≡ answered (k ∷ []) (result ∷ [])
       → (case : ℕ) → dnf n (listIn k result) case ≡ tableSays n count words case
   short-says k result e case =
       ap (λ xs. dnf n xs case) (answered-clauses (shortFindings n count words room work) (shortOvers n room (meaning n (nodes count words)) out) (shortList n (meaning n (nodes count words))) k result e)
-      ∙ short-means n (meaning n (nodes count words)) deep case
+      ∙ short-means n (meaning n (nodes count words)) (meaning-deep n (nodes count words)) case
 
   module _ (clean : Clean (judged (shortFindings n count words room work))) where
     decided : listsShort n count words room out work

@@ -1,6 +1,5 @@
 -- The specification's starred cases, computed from the entries' own verdicts: one table of rows under one claim.
 use mathlib.Core.Path.{_≡_, refl}
-use mathlib.Core.Bool.{true, false, _||_}
 use mathlib.Core.List.{List, [], _∷_, map}
 use Prim.Native.Nat.{ℕ, _*_}
 use lib.ListN.{length, replicate}
@@ -10,7 +9,7 @@ use Rattle.theory.specs.Mask.{bit, setBit}
 use Rattle.theory.specs.Words.{nodes, wordsOf}
 use Rattle.theory.specs.Clause.{clause, emptyClause, setCell, unsetCell, marksOf, malformed}
 use Rattle.refusal.specs.Number.{NODES, REDUCED, order}
-use Rattle.refusal.specs.Limits.{plainWork}
+use Rattle.refusal.specs.Limits.{plainWork, deepWork}
 use Rattle.refusal.specs.First.{firstFailing}
 use Rattle.refusal.specs.Verdict.{Verdict, refused, judged, tried, firstOf}
 use Rattle.table.specs.Inspection.{overLimit, tooShort, firstBad}
@@ -21,7 +20,7 @@ use Rattle.paths.specs.Paths.{pathList, pathsFrom, pathCount}
 use Rattle.listing.specs.Listed.{clauseWords, listAnswer, lists}
 use Rattle.lists.specs.Lists.{listsDnf, listsCnf}
 use Rattle.rule.specs.Rule.{moreCases, larger, mostCases, coreOf, hasCore, remainder, dropped, dropMarks, restOf, fewerNodes, smaller, fewestNodes, chosen, markOf, solved, inside, cleared, trimmedBy, trimmed, shortList, triedExists, restrictions, forAlls, restCalls, stepCalls, called, allFit, shortFits}
-use Rattle.short.specs.Short.{deepWork, shortDeep, listsShort}
+use Rattle.short.specs.Short.{shortDeep, listsShort}
 use Rattle.reduced.specs.Reduced.{leads, reachable, repeated, nodeReduced, firstUnreduced, admitsWalk}
 use Rattle.builders.specs.Builders.{overList, shortList as endsEarly, badEntry, firstBadEntry, shortestOver, makesDnf, makesCnf}
 

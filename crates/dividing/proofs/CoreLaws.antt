@@ -1,7 +1,7 @@
 -- Step 1: what `core_step` returns, place by place, and the loop of `core_of`.
-use mathlib.Core.Path.{_≡_, refl, sym, ap, ap₂, subst, _∙_}
-use mathlib.Core.Logic.{_≢_, _⊎_, inl, inr}
-use mathlib.Core.Bool.{Bool, true, false, cond, _&&_}
+use mathlib.Core.Path.{_≡_, refl, sym, ap, subst, _∙_}
+use mathlib.Core.Logic.{_≢_, _⊎_, inl}
+use mathlib.Core.Bool.{true, false, _&&_}
 use mathlib.Core.List.{List, [], _∷_}
 use Prim.Native.Nat.{ℕ, zero, suc, _+_, _*_, _-_, _^_, _≤_, _<_}
 use native.Mathlib.Omega.{arith}
@@ -18,12 +18,12 @@ use Rattle.rule.specs.Rule.{supportMarks, moreCases, larger, mostCases, coreOf,
 use Rattle.frame.specs.declared.Size.{Size}
 use Rattle.frame.specs.declared.Made.{Made}
 use Rattle.frame.specs.declared.Made.the-variants.{Count, Over}
-use Rattle.frame.specs.Held.{Tab, Held, Sized, Lies, Operand, Turns, Reads, Copies}
+use Rattle.frame.specs.Held.{Tab, Sized, Lies, Operand, Turns, Reads, Copies}
 use Rattle.frame.proofs.Views.{front-less, tab-kept}
 use Rattle.dividing.specs.declared.Cored.{Cored}
 use Rattle.dividing.specs.declared.Cored.the-variants.{Best, TooLarge}
-use Rattle.dividing.specs.Dividing.{place, coreAt, tryAt, InFrame, Standing, CoreGiven, CoreSteps, Cores, SupportAt}
-use Rattle.dividing.proofs.FitLaws.{only, operand, lies-at, sized-at, one-yes, one-no, all-cons, Next, next-mark}
+use Rattle.dividing.specs.Dividing.{coreAt, tryAt, InFrame, Standing, CoreGiven, CoreSteps, Cores, SupportAt}
+use Rattle.dividing.proofs.FitLaws.{only, operand, lies-at, sized-at, one-yes, one-no, all-cons, Next}
 
 -- ---- one mark
 module _ (q : Size) (f kf m kc most : ℕ) (w : List ℕ) (fr : InFrame w q f kf) (st : Standing w q (coreAt q f) kc) where

@@ -1,27 +1,26 @@
 -- The three steps together.
-use mathlib.Core.Path.{_≡_, refl, sym, ap, ap₂, subst, _∙_}
+use mathlib.Core.Path.{_≡_, refl, ap, ap₂, subst, _∙_}
 use mathlib.Core.Bool.{Bool, true, false, _&&_}
-use mathlib.Core.List.{List, [], _∷_, _++_}
-use Prim.Native.Nat.{ℕ, _+_, _*_, _^_, _≤_, _<_}
+use mathlib.Core.List.{List}
+use Prim.Native.Nat.{ℕ, _+_, _*_, _^_, _<_}
 use native.Mathlib.Omega.{arith}
 use lib.ListN.{length, take}
 use Rattle.theory.specs.Tree.{Tree, supportOf}
 use Rattle.theory.specs.Clause.{marksOf}
 use Rattle.theory.proofs.Support.{support-lt}
-use Rattle.rule.specs.Rule.{supportMarks, coreOf, restOf, markOf, chosen, restrictions, forAlls, restCalls, stepCalls, allFit}
+use Rattle.rule.specs.Rule.{supportMarks, coreOf, restOf, markOf, restrictions, forAlls, restCalls, stepCalls, allFit}
 use Rattle.valuation.specs.declared.BddVariable.{BddVariable}
 use Rattle.frame.specs.declared.Size.{Size}
 use Rattle.frame.specs.declared.Made.{Made}
 use Rattle.frame.specs.declared.Made.the-variants.{Count, Over}
-use Rattle.frame.specs.Held.{Tab, Held, Sized, Lies, Operand, Reads}
+use Rattle.frame.specs.Held.{Tab, Sized, Operand, Reads}
 use Rattle.frame.proofs.Views.{front-less, tab-kept}
 use Rattle.dividing.specs.declared.Cored.{Cored}
 use Rattle.dividing.specs.declared.Cored.the-variants as cored
 use Rattle.dividing.specs.declared.Marked.{Marked}
 use Rattle.dividing.specs.declared.Marked.the-variants as marked
-use Rattle.dividing.specs.declared.Parts.{Parts}
 use Rattle.dividing.specs.declared.Divided.the-variants as divided
-use Rattle.dividing.specs.Dividing.{place, coreAt, restAt, tryAt, InFrame, Inner, GivesAll, CoreGiven, Cores, Coring, RestReady, Rests, Picks, MarkReady, MarkSteps, Divides, DivideReady}
+use Rattle.dividing.specs.Dividing.{coreAt, restAt, tryAt, Inner, GivesAll, CoreGiven, Cores, Coring, RestReady, Rests, Picks, MarkReady, MarkSteps, Divides, DivideReady}
 use Rattle.dividing.proofs.FitLaws.{only, operand, lies-at, sized-at, all-append}
 use Rattle.dividing.proofs.MarkLaws.{pick-chosen}
 

@@ -5,7 +5,7 @@ use mathlib.Core.Bool.{Bool, true, false, _&&_}
 use mathlib.Core.List.{List, [], _∷_, _++_}
 use Prim.Native.Nat.{ℕ, zero, suc, _+_, _*_, _-_, _^_, _≤_, _<_}
 use native.Mathlib.Omega.{arith}
-use lib.ListN.{length, take}
+use lib.ListN.{length}
 use lib.Count.{trailingZeros}
 use borrow.Author.Tests.{le-leb, lt-leb}
 use Rattle.theory.specs.Mask.{setBit}
@@ -17,10 +17,11 @@ use Rattle.theory.proofs.Masks.{setBit-lt}
 use Rattle.theory.proofs.Marks.{trailing-lt, trailing-first}
 use Rattle.theory.proofs.Words.{words-injective}
 use Rattle.theory.proofs.Canon.{canon-injective}
+use Rattle.theory.proofs.Truths.{and-assoc}
 use Rattle.refusal.specs.Limits.{maxMarks}
 use Rattle.rule.specs.Rule.{inside, fits, allFit}
 use Rattle.frame.specs.declared.Size.{Size}
-use Rattle.frame.specs.Held.{Tab, Held, Sized, Lies, Operand}
+use Rattle.frame.specs.Held.{Tab, Sized, Lies, Operand}
 use Rattle.frame_implies.specs.Framed.{saysNo, without}
 
 -- a table says one function only
@@ -79,11 +80,7 @@ all-cons room n f ts = ap (λ v. v && allFit room n ts) (one (fits room n f))
 pub all-append : (room n : ℕ) (ts us : List Tree) → allFit room n (ts ++ us) ≡ allFit room n ts && allFit room n us
 unfolding allFit
 all-append room n [] us = refl
-all-append room n (t ∷ ts) us = rw (all-append room n ts us) (assoc (fits room n t) (allFit room n ts) (allFit room n us))
-  where
-    assoc : (a b c : Bool) → a && (b && c) ≡ (a && b) && c
-    assoc true b c = refl
-    assoc false b c = refl
+all-append room n (t ∷ ts) us = rw (all-append room n ts us) (and-assoc (fits room n t) (allFit room n ts) (allFit room n us))
 
 -- ---- the next mark of a mask
 pub record Next (n s m : ℕ) : Type 0 where

@@ -1,9 +1,8 @@
 -- Step 3: what `mark_step` returns, place by place, and the loop of `mark_of`.
 use mathlib.Core.Path.{_≡_, refl, sym, ap, ap₂, subst, _∙_}
-use mathlib.Core.Logic.{_≢_}
 use mathlib.Core.Bool.{Bool, true, false, cond, _&&_}
 use mathlib.Core.List.{List, [], _∷_}
-use Prim.Native.Nat.{ℕ, zero, suc, _+_, _*_, _-_, _^_, _≤_, _<_}
+use Prim.Native.Nat.{ℕ, _+_, _*_, _-_, _^_, _≤_, _<_}
 use native.Mathlib.Omega.{arith}
 use lib.Dec.{ltb}
 use lib.ListN.{length, take}
@@ -11,20 +10,19 @@ use borrow.Author.Tests.{lt-ltb, le-ltb, leb-true}
 use Rattle.theory.specs.Mask.{setBit}
 use Rattle.theory.specs.Tree.{Tree, cofactor}
 use Rattle.theory.specs.Table.{canon}
-use Rattle.theory.specs.Words.{stride}
 use Rattle.theory.specs.Clause.{marksOf}
-use Rattle.theory.proofs.Find.{and-true}
 use Rattle.theory.proofs.Marks.{marks-of-zero}
+use Rattle.theory.proofs.Truths.{and-true}
 use Rattle.valuation.specs.declared.BddVariable.{BddVariable}
 use Rattle.rule.specs.Rule.{nodeTotal, fewerNodes, smaller, fewestNodes, chosen, restrictions, fits, allFit}
 use Rattle.frame.specs.declared.Size.{Size}
 use Rattle.frame.specs.declared.Made.{Made}
 use Rattle.frame.specs.declared.Made.the-variants.{Count, Over}
-use Rattle.frame.specs.Held.{Tab, Held, Lies, Operand, Turns}
-use Rattle.frame.proofs.Views.{front-less, tab-kept}
+use Rattle.frame.specs.Held.{Tab, Lies, Operand, Turns}
+use Rattle.frame.proofs.Views.{tab-kept}
 use Rattle.dividing.specs.declared.Marked.{Marked}
 use Rattle.dividing.specs.declared.Marked.the-variants.{Least, TooLarge}
-use Rattle.dividing.specs.Dividing.{place, restAt, tryAt, Standing, pickFrom, Picks, MarkReady, MarkSteps}
+use Rattle.dividing.specs.Dividing.{restAt, tryAt, pickFrom, Picks, MarkReady, MarkSteps}
 use Rattle.dividing.proofs.FitLaws.{only, operand, lies-at, fits-yes, fits-no, Next}
 
 -- ---- one mark

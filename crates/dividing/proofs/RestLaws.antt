@@ -1,29 +1,28 @@
 -- Step 2: what `rest_step` returns, place by place, and the loop of `rest_of`.
 use mathlib.Core.Path.{_≡_, refl, sym, ap, ap₂, subst, _∙_}
 use mathlib.Core.Logic.{_≢_, _⊎_, inl, inr}
-use mathlib.Core.Bool.{Bool, true, false, cond, not, _&&_, _||_}
+use mathlib.Core.Bool.{Bool, true, false, cond, _&&_}
 use mathlib.Core.List.{List, [], _∷_}
-use Prim.Native.Nat.{ℕ, zero, suc, _+_, _*_, _-_, _^_, _≤_, _<_}
+use Prim.Native.Nat.{ℕ, _+_, _*_, _-_, _^_, _≤_, _<_}
 use native.Mathlib.Omega.{arith}
-use lib.Dec.{ltb}
 use lib.ListN.{length, take}
 use borrow.Author.Tests.{lt-ltb, le-ltb}
 use Rattle.theory.specs.Mask.{setBit}
-use Rattle.theory.specs.Tree.{Tree, caseCount, pointwise, existsMark, supportOf}
+use Rattle.theory.specs.Tree.{Tree, caseCount, pointwise, existsMark, supportOf, andNot}
 use Rattle.theory.specs.Words.{stride}
 use Rattle.theory.specs.Clause.{marksOf}
 use Rattle.theory.proofs.Marks.{marks-of-zero}
 use Rattle.theory.proofs.Support.{support-lt}
-use Rattle.rule.specs.Rule.{supportMarks, coreOf, hasCore, andNot, remainder, dropped, dropMarks, restOf, inside, triedExists, restCalls, allFit}
+use Rattle.rule.specs.Rule.{supportMarks, coreOf, hasCore, remainder, dropped, dropMarks, restOf, inside, triedExists, restCalls, allFit}
 use Rattle.rule.proofs.Parts.{Core, Rest, rest-start-of, rest-dropped, step}
 use Rattle.rule.proofs.Tests.{dropped-inside}
 use Rattle.frame.specs.declared.Size.{Size}
 use Rattle.frame.specs.declared.Made.{Made}
 use Rattle.frame.specs.declared.Made.the-variants.{Count, Over}
-use Rattle.frame.specs.Held.{Tab, Held, Sized, Lies, Operand, Gives, Turns, Joins, Tests, Reads, Copies}
+use Rattle.frame.specs.Held.{Tab, Sized, Lies, Operand, Gives, Turns, Joins, Tests, Reads, Copies}
 use Rattle.frame.proofs.Views.{front-less, tab-kept}
 use Rattle.frame_implies.specs.Framed.{saysNo, without}
-use Rattle.dividing.specs.Dividing.{place, coreAt, restAt, tryAt, InFrame, Standing, Inner, GivesAll, RestSteps, Coring, RestReady, Rests}
+use Rattle.dividing.specs.Dividing.{coreAt, restAt, tryAt, InFrame, Standing, GivesAll, RestSteps, Coring, RestReady, Rests}
 use Rattle.dividing.proofs.FitLaws.{only, operand, lies-at, sized-at, inside-is, one-yes, one-no, all-cons, Next}
 
 -- ---- one mark
@@ -146,7 +145,7 @@ module _ (q : Size) (f kf kc most : ℕ) (w : List ℕ) (pre : RestReady w q f k
   )
 
   module _ (ne : most ≢ 0) (w₀ : List ℕ) (k₀ : take (restAt q f) w₀ ≡ take (restAt q f) w) (l₀ : length w₀ ≡ length w) (r₀ : Made)
-      (t₀ : Joins (pointwise (λ x y. x && not y)) q w w₀ f kf (coreAt q f) kc (restAt q f) r₀) where
+      (t₀ : Joins (pointwise andNot) q w w₀ f kf (coreAt q f) kc (restAt q f) r₀) where
     has : (F : Tree) → Coring w q f kf kc most F → hasCore (q .n) F ≡ true
     unfolding hasCore
     has F c = lt-ltb 0 (caseCount (coreOf (q .n) F)) (omega (arith, c .cases, ne))

@@ -1,11 +1,11 @@
 -- One step of the rule in a frame of four tables: the function, its core, what is left beside it, and one to try.
 use mathlib.Core.Path.{_≡_}
-use mathlib.Core.Bool.{Bool, true, false, cond}
+use mathlib.Core.Bool.{true, false, cond}
 use mathlib.Core.List.{List, [], _∷_}
-use Prim.Native.Nat.{ℕ, _+_, _*_, _≤_, _<_}
+use Prim.Native.Nat.{ℕ, _+_, _*_, _≤_}
 use lib.Dec.{ltb}
 use lib.ListN.{length}
-use Rattle.theory.specs.Tree.{Tree, caseCount, cofactor, existsMark, forAllMark, konst, sameTree, supportOf}
+use Rattle.theory.specs.Tree.{Tree, caseCount, existsMark, forAllMark, konst, sameTree, supportOf}
 use Rattle.theory.specs.Words.{stride}
 use Rattle.rule.specs.Rule.{supportMarks, larger, coreOf, restOf, nodeTotal, markOf, inside, restrictions, forAlls, restCalls, stepCalls, allFit}
 use Rattle.frame.specs.declared.Size.{Size}

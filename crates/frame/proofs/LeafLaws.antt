@@ -1,26 +1,22 @@
 -- The false table, copies, and words compared.
 use mathlib.Core.Path.{_≡_, refl, sym, ap, _∙_}
 use mathlib.Core.Logic.{_≢_, _⊎_, inl, inr}
-use mathlib.Core.Bool.{Bool, false}
+use mathlib.Core.Bool.{false}
 use mathlib.Core.List.{List, [], _∷_}
 use Prim.Native.Nat.{ℕ, zero, suc, _+_, _*_, _-_, _≤_, _<_}
 use native.Mathlib.Omega.{arith}
 use native.Mathlib.Decide.{ℕ-discrete}
 use lib.ListN.{length, take, drop, set, getD, length-set, length-drop}
 use lib.Seq.{take-set-le, getD-take, getD-drop, getD-set-same, getD-set-other, ext-getD, length-take-le}
-use Rattle.theory.specs.Tree.{Deep, konst}
+use Rattle.theory.specs.Tree.{konst}
 use Rattle.theory.specs.Table.{node, constants, cut, canon}
 use Rattle.theory.specs.Words.{stride, wordsOf}
 use Rattle.theory.proofs.Again.{walk-konst}
+use Rattle.theory.proofs.Cases.{konst-deep}
 use Rattle.frame.specs.Held.{part, Kept, Tab, Copies}
 use Rattle.frame.proofs.Views.{part-long}
 
 -- ---- the false table
-konst-deep : (k : ℕ) (b : Bool) → Deep k (konst k b)
-unfolding konst
-konst-deep zero b = tt
-konst-deep (suc k) b = (konst-deep k b, konst-deep k b)
-
 canon-false : (n : ℕ) → canon n (konst n false) ≡ node n 0 0 ∷ []
 unfolding canon
 canon-false n = ap (cut n) (walk-konst n false (constants n) 0)
@@ -126,8 +122,21 @@ alike-more w a b i e d j l = elim (ℕ-discrete j i) [
   | no ne ↦ e j (omega arith)
 ]
 
+part-at : (w : List ℕ) (o n j : ℕ) → j < n → getD (part o (o + n) w) j 0 ≡ getD w (o + j) 0
+part-at w o n j l = getD-take (o + n - o) (drop o w) j 0 (omega arith) ∙ getD-drop o w j 0
+
+pub alike-at : (w₀ w : List ℕ) (a b n j : ℕ) → j < n → part a (a + n) w₀ ≡ part b (b + n) w → getD w₀ (a + j) 0 ≡ getD w (b + j) 0
+alike-at w₀ w a b n j l e = sym (part-at w₀ a n j l) ∙ ap (λ v. getD v j 0) e ∙ part-at w b n j l
+
 pub unlike-at : (w : List ℕ) (a b n i : ℕ) → i < n → (getD w (a + i) 0 ≡ getD w (b + i) 0 → ⊥) → part a (a + n) w ≡ part b (b + n) w → ⊥
-unlike-at w a b n i l ne e = ne (sym (read a) ∙ ap (λ v. getD v i 0) e ∙ read b)
+unlike-at w a b n i l ne e = ne (alike-at w w a b n i l e)
+
+-- a copy, word by word
+pub copied-words : (w₀ w : List ℕ) (a d n : ℕ) → length w ≡ length w₀ → Kept w₀ w d (d + n) → part d (d + n) w ≡ part a (a + n) w₀ → Copied w₀ w a d n
+copied-words w₀ w a d n long k e = record { long = long; other = other; done = λ j l. alike-at w w₀ d a n j l e }
   where
-    read : (o : ℕ) → getD (part o (o + n) w) i 0 ≡ getD w (o + i) 0
-    read o = getD-take (o + n - o) (drop o w) i 0 (omega arith) ∙ getD-drop o w i 0
+    other : (j : ℕ) → (j < d) ⊎ (d + n ≤ j) → getD w j 0 ≡ getD w₀ j 0
+    other j (inl h) = sym (getD-take d w j 0 h) ∙ ap (λ v. getD v j 0) (k .front) ∙ getD-take d w₀ j 0 h
+    other j (inr h) =
+        let e : d + n + (j - (d + n)) ≡ j = omega arith in
+        ap (λ i. getD w i 0) (sym e) ∙ sym (getD-drop (d + n) w (j - (d + n)) 0) ∙ ap (λ v. getD v (j - (d + n)) 0) (k .back) ∙ getD-drop (d + n) w₀ (j - (d + n)) 0 ∙ ap (λ i. getD w₀ i 0) e

@@ -1,6 +1,6 @@
 -- The descent that makes no node over parts of one slice: its laws are those of the parts, since only the memory is written.
 use mathlib.Core.Path.{_≡_, refl, sym, ap, ap₂, subst, _∙_}
-use mathlib.Core.Bool.{Bool, true, false, cond}
+use mathlib.Core.Bool.{Bool, true, false}
 use mathlib.Core.List.{List}
 use Prim.Native.Nat.{ℕ, _+_, _-_, _*_, _<_, _≤_}
 use native.Mathlib.Omega.{arith}
@@ -8,6 +8,7 @@ use lib.Dec.{eqb}
 use lib.ListN.{length, take}
 use Rattle.theory.specs.Tree.{Tree, pointwise, cofactor, konst, sameTree}
 use Rattle.theory.proofs.Support.{same-equal, same-refl}
+use Rattle.theory.proofs.Turned.{cofactor-past}
 use Rattle.refusal.specs.Limits.{maxNodes}
 use Rattle.refusal.specs.Buffers.{padded}
 use Rattle.table.specs.declared.BddPointer.{BddPointer}
@@ -17,7 +18,7 @@ use Rattle.join.specs.declared.Step.{Step}
 use Rattle.join.specs.declared.Step.the-variants.{Known, Fork}
 use Rattle.join.specs.Memo.{ways, Stores}
 use Rattle.join.specs.Joining.{taskOf, Splits, Parted, knownIn, joinedBy}
-use Rattle.join.proofs.TruthLaws.{and-not-table, cofactor-none}
+use Rattle.join.proofs.TruthLaws.{and-not-table}
 use Rattle.implies.specs.Implying.{Implying, Implies, SaysNo}
 use Rattle.implies.proofs.ImpliesLaws.{splitting, known-implies, step-parted, deeper, next-fits, low-ready, low-stops, high-ready, high-stops, remember-asks, implied, start-ready, whole-says}
 use Rattle.frame.specs.declared.Size.{Size}
@@ -140,9 +141,6 @@ module _ (w : List ℕ) (at : Place) (j : Job) (g : AskingIn w at j) (w₁ : Lis
   )
 
 -- ---- held tables
-true-false : true ≡ false → ⊥
-true-false e = let z : _≡_ {A = ℕ} 1 0 = ap (λ b. cond b 1 0) e in omega arith
-
 -- no of every case, as a test
 no-test : (n : ℕ) (g : Tree) (z : Bool) → SaysNo n g z → z ≡ sameTree g (konst n false)
 no-test n g true e = sym (ap (λ t. sameTree t (konst n false)) e ∙ same-refl (konst n false))
@@ -174,4 +172,4 @@ pub pair-inside : (q : Size) (w : List ℕ) (a k b j : ℕ) (sized : Sized q (le
     SaysNo (q .n) (joinedBy (leftPart w P J) (rightPart w P J) J) z → Tests (λ f g. saysNo (q .n) (without f g)) (q .n) w a k b j z
 pair-inside q w a k b j sized ha hb size z s f g tf tg =
     inside-in q w a k b j sized ha hb size (q .n) false (q .n) false z s f g tf tg
-    ∙ ap₂ (λ s t. saysNo (q .n) (without s t)) (cofactor-none (q .n) (q .n) false f (tf .deep) (omega arith)) (cofactor-none (q .n) (q .n) false g (tg .deep) (omega arith))
+    ∙ ap₂ (λ s t. saysNo (q .n) (without s t)) (cofactor-past (q .n) (q .n) false f (tf .deep) (omega arith)) (cofactor-past (q .n) (q .n) false g (tg .deep) (omega arith))

@@ -1,8 +1,8 @@
 -- The descent that makes no node, inside one slice.
-use mathlib.Core.Bool.{Bool, false, not, _&&_}
+use mathlib.Core.Bool.{Bool, false}
 use mathlib.Core.List.{List}
 use Prim.Native.Nat.{ℕ}
-use Rattle.theory.specs.Tree.{Tree, pointwise, konst, sameTree}
+use Rattle.theory.specs.Tree.{Tree, pointwise, konst, sameTree, andNot}
 use Rattle.join.specs.declared.Job.{Job}
 use Rattle.join.specs.Joining.{Operands}
 use Rattle.implies.specs.Implying.{Implying}
@@ -23,4 +23,4 @@ saysNo n g = sameTree g (konst n false)
 
 -- the cases of f that g leaves out
 abbrev pub without : Tree → Tree → Tree
-without f g = pointwise (λ x y. x && not y) f g
+without f g = pointwise andNot f g

@@ -9,6 +9,7 @@ use Rattle.theory.specs.Tree.{Tree, Deep, pointwise, cofactor}
 use Rattle.theory.specs.Table.{constants}
 use Rattle.theory.specs.Words.{stride, nodes}
 use Rattle.theory.proofs.Cases.{pointwise-deep, cofactor-deep}
+use Rattle.theory.proofs.Turned.{cofactor-past}
 use Rattle.refusal.specs.Buffers.{padded}
 use Rattle.table.specs.declared.BddPointer.{BddPointer}
 use Rattle.pool.specs.declared.Noted.{Noted}
@@ -16,7 +17,6 @@ use Rattle.pool.specs.declared.Noted.the-variants.{Node as Got, Full}
 use Rattle.join.specs.declared.Job.{Job}
 use Rattle.join.specs.Task.{opOf}
 use Rattle.join.specs.Joining.{joinedBy, Operands, Joining, Joins as Descends, cutCount}
-use Rattle.join.proofs.TruthLaws.{cofactor-none}
 use Rattle.join.proofs.WholeLaws.{start-ready, whole-over, whole-count}
 use Rattle.frame.specs.declared.Size.{Size}
 use Rattle.frame.specs.declared.Made.{Made}
@@ -166,7 +166,7 @@ pub pair-gives : (q : Size) (w : List ℕ) (d a k b j : ℕ) (lies : Lies q (len
     → let J : Job = jobOf q op k (q .n) false j (q .n) false in let P : Place = placeOf q a b d size in
     Left (q .n) (q .room) (joinedBy (leftPart w P J) (rightPart w P J) J) (outPart w′ P) r → Joins (pointwise (opOf op)) q w w′ a k b j d r
 pair-gives q w d a k b j lies ha hb size op w′ n r left f g tf tg =
-    subst (λ t. Gives q w′ d t r) (ap₂ (pointwise (opOf op)) (cofactor-none (q .n) (q .n) false f (tf .deep) (omega arith)) (cofactor-none (q .n) (q .n) false g (tg .deep) (omega arith)))
+    subst (λ t. Gives q w′ d t r) (ap₂ (pointwise (opOf op)) (cofactor-past (q .n) (q .n) false f (tf .deep) (omega arith)) (cofactor-past (q .n) (q .n) false g (tg .deep) (omega arith)))
     (gives-in q w d a k b j (sized-of q (length w) d lies) ha hb size op (q .n) false (q .n) false (lies .below) w′ n r left f g tf tg)
 
 -- one table, with the mark at 0 and at 1

@@ -1,9 +1,9 @@
 -- The memory's slots: what a hit means, that one more entry keeps the others, and that zeros remember nothing.
-use mathlib.Core.Path.{_≡_, refl, sym, ap, ap₂, subst, _∙_}
+use mathlib.Core.Path.{_≡_, sym, ap, subst, _∙_}
 use mathlib.Core.Logic.{_≢_, _⊎_, inl, inr}
-use mathlib.Core.Bool.{Bool, true, false}
+use mathlib.Core.Bool.{Bool}
 use mathlib.Core.List.{List}
-use Prim.Native.Nat.{ℕ, zero, suc, _+_, _*_, _-_, _≤_, _<_}
+use Prim.Native.Nat.{ℕ, suc, _+_, _*_, _-_, _≤_, _<_}
 use native.Mathlib.Omega.{arith}
 use native.Mathlib.Nat.{mul-le-mul-left, mul-le-mul-right, mul-assoc, mul-suc}
 use native.Mathlib.Decide.{ℕ-discrete, decLt}
@@ -11,13 +11,13 @@ use lib.ListN.{length, take, drop, getD, set, length-set, length-drop}
 use lib.Seq.{getD-take, getD-drop, getD-set-same, getD-set-other, ext-getD, length-take-le}
 use Rattle.theory.specs.Tree.{Tree}
 use Rattle.theory.specs.Table.{canon}
-use Rattle.theory.specs.Words.{stride, wordsOf}
+use Rattle.theory.specs.Words.{stride}
 use Rattle.theory.proofs.Words.{words-injective}
 use Rattle.theory.proofs.Canon.{canon-injective, canon-ordered}
 use Rattle.frame.specs.declared.Size.{Size}
-use Rattle.frame.specs.Held.{Tab, Held}
-use Rattle.frame.proofs.LeafLaws.{Copied}
-use Rattle.harmless.specs.Memory.{block, frameAt, memory, Harmless, Proven, Recalls, slotSize, slots, slotAt, Remembers, Keeping, Slot, SameWords}
+use Rattle.frame.specs.Held.{Tab, Alike}
+use Rattle.frame.proofs.LeafLaws.{Copied, alike-at}
+use Rattle.harmless.specs.Memory.{block, frameAt, memory, Harmless, Proven, Recalls, slotSize, slots, slotAt, Remembers, Keeping, Slot}
 
 -- ---- where slots lie
 slot-next : (q : Size) (i : ℕ) → slotAt q (suc i) ≡ slotAt q i + slotSize q
@@ -35,12 +35,6 @@ slot-within q i w h =
 
 pub slot-small : (q : Size) (w : List ℕ) (a k i : ℕ) → Keeping w q a k → i < slots q → slotAt q i + slotSize q ≤ length w
 slot-small q w a k i pre h = omega (arith, slot-within q i (omega (arith, pre .some, pre .room)) h, pre .behind, pre .held .tab .lies)
-
-pub same-next : (w : List ℕ) (a b i : ℕ) → ((j : ℕ) → j < i → getD w (a + j) 0 ≡ getD w (b + j) 0) → getD w (a + i) 0 ≡ getD w (b + i) 0 → (j : ℕ) → j < i + 1 → getD w (a + j) 0 ≡ getD w (b + j) 0
-same-next w a b i h e j l = elim (ℕ-discrete j i) [
-  | yes d ↦ rw d e
-  | no d ↦ h j (omega arith)
-]
 
 -- ---- words of a table, one by one
 same-view : (v w : List ℕ) (o a n : ℕ) → o + n ≤ length v → a + n ≤ length w → ((j : ℕ) → j < n → getD v (o + j) 0 ≡ getD w (a + j) 0) → take n (drop o v) ≡ take n (drop a w)
@@ -77,22 +71,22 @@ module _ (q : Size) (w : List ℕ) (a k : ℕ) (pre : Keeping w q a k) (at : ℕ
   pub ask-same : (at + 1 + stride * k ≤ length w) × (a + stride * k ≤ length w)
   ask-same = (omega (arith, inside, all-in, pre .fits, pre .room), pre .held .tab .lies)
 
-  pub ask-store : (a + stride * k ≤ length (set w at k)) × (at + 1 + stride * k ≤ length (set w at k)) × ((at + 1 + stride * k ≤ a) ⊎ (a + stride * k ≤ at + 1))
-  ask-store = (
+  pub ask-copy : (a + stride * k ≤ length (set w at k)) × (at + 1 + stride * k ≤ length (set w at k)) × ((at + 1 + stride * k ≤ a) ⊎ (a + stride * k ≤ at + 1))
+  ask-copy = (
     omega (arith, length-set w at k, pre .held .tab .lies),
     omega (arith, length-set w at k, inside, all-in, pre .fits, pre .room),
     inl (omega (arith, inside, pre .behind, pre .fits, pre .room)),
   )
 
   -- a table found in its slot
-  pub hit : Remembers q (memory q w) → getD w at 0 ≡ k → (r : Bool) → SameWords w (at + 1) a (stride * k) r → Recalls q w a k r
+  pub hit : Remembers q (memory q w) → getD w at 0 ≡ k → (r : Bool) → Alike w (at + 1) a (stride * k) r → Recalls q w a k r
   unfolding Remembers
   hit known e r same is F t =
       let c : getD (memory q w) (slotAt q (s .index)) 0 ≡ k = ap (λ j. getD (memory q w) j 0) (sym (s .is)) ∙ memory-at q w at (omega (arith, inside)) ∙ e in
       known (s .index) F (s .less) (omega (arith, pre .fits))
       (rw (c, ← s .is)
       (tab-moved (q .n) w (memory q w) a (at + 1) k F t (omega (arith, memory-long, inside, pre .fits, pre .room))
-      (λ j l. memory-at q w (at + 1 + j) (omega (arith, inside, pre .fits, pre .room)) ∙ same is j l)))
+      (λ j l. memory-at q w (at + 1 + j) (omega (arith, inside, pre .fits, pre .room)) ∙ alike-at w w (at + 1) a (stride * k) j l (subst (Alike w (at + 1) a (stride * k)) is same))))
 
   -- kept: the slot holds the table, all else is as it was
   module _ (w₁ : List ℕ) (c : Copied (set w at k) w₁ a (at + 1) (stride * k)) where

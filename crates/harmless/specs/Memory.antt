@@ -1,10 +1,9 @@
 -- The memory of functions found harmless: it lies before the frames.
 use mathlib.Core.Path.{_≡_}
-use mathlib.Core.Logic.{_⊎_}
 use mathlib.Core.Bool.{Bool, true}
 use mathlib.Core.List.{List}
 use Prim.Native.Nat.{ℕ, _+_, _*_, _≤_, _<_}
-use lib.ListN.{length, take, drop, getD}
+use lib.ListN.{take, getD}
 use Rattle.theory.specs.Tree.{Tree}
 use Rattle.theory.specs.Words.{stride}
 use Rattle.refusal.specs.Limits.{minRoom, maxMarks, maxNodes}
@@ -61,7 +60,3 @@ pub record Slot (q : Size) (r : ℕ) : Type 0 where
   pub index : ℕ
   pub less : index < slots q
   pub is : r ≡ slotAt q index
-
--- equal words
-abbrev pub SameWords : List ℕ → ℕ → ℕ → ℕ → Bool → Type 0
-SameWords w a b n r = r ≡ true → (j : ℕ) → j < n → getD w (a + j) 0 ≡ getD w (b + j) 0

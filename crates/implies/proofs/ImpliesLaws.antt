@@ -3,7 +3,7 @@ use mathlib.Core.Path.{_≡_, refl, sym, ap, ap₂, subst, _∙_}
 use mathlib.Core.Logic.{inl, inr}
 use mathlib.Core.Bool.{Bool, true, false, cond, not, _&&_}
 use mathlib.Core.List.{List}
-use Prim.Native.Nat.{ℕ, zero, suc, _+_, _-_, _/_, _^_, _<_, _≤_}
+use Prim.Native.Nat.{ℕ, suc, _+_, _-_, _/_, _^_, _<_, _≤_}
 use native.Mathlib.Omega.{arith}
 use native.Mathlib.Numerals.{add-one}
 use native.Mathlib.Nat.{sub-zero}
@@ -11,13 +11,12 @@ use native.Mathlib.Decide.{ℕ-discrete}
 use lib.Dec.{eqb}
 use lib.ListN.{length, take}
 use borrow.Author.Tests.{eq-eqb, ne-eqb}
-use Rattle.theory.specs.Mask.{odd}
-use Rattle.theory.specs.Tree.{Tree, fork, Deep, look, konst, pointwise}
+use Rattle.theory.specs.Tree.{Tree, fork, Deep, look, konst, pointwise, andNot}
 use Rattle.theory.specs.Table.{Table, walk, constants, Ordered}
 use Rattle.theory.specs.Words.{nodes}
 use Rattle.theory.proofs.Step.{treeOf-konst}
 use Rattle.theory.proofs.Walk.{Walked, sound}
-use Rattle.theory.proofs.Cases.{look-ext, pointwise-deep, pointwise-look}
+use Rattle.theory.proofs.Cases.{look-ext, pointwise-deep, pointwise-look, konst-deep, konst-look}
 use Rattle.theory.proofs.Canon.{constants-good}
 use Rattle.theory.proofs.Again.{walk-konst}
 use Rattle.theory.proofs.Words.{length-nodes}
@@ -196,25 +195,12 @@ module _ (a b m : List ℕ) (j : Job) (g : Operands a b m j) where
   whole-says m₂ false h = λ e. h (tree-is a b j ∙ e ∙ ap (λ k. konst k false) (sym (sub-zero (j .n))))
 
 -- ---- in plain words, for and-not: the left function implies the right one
-konst-look : (k : ℕ) (b : Bool) (c : ℕ) → look (konst k b) c ≡ b
-unfolding konst look
-konst-look zero b c = refl
-konst-look (suc k) b c = elim (odd c) as (λ v. cond v (look (konst k b) (c / 2)) (look (konst k b) (c / 2)) ≡ b) [
-  | true ↦ konst-look k b (c / 2)
-  | false ↦ konst-look k b (c / 2)
-]
-
-konst-deep : (k : ℕ) (b : Bool) → Deep k (konst k b)
-unfolding konst
-konst-deep zero b = tt
-konst-deep (suc k) b = (konst-deep k b, konst-deep k b)
-
 abbrev pub Within : ℕ → Tree → Tree → Type 0
 Within n t u = (case : ℕ) → case < 2 ^ n → look t case ≡ true → look u case ≡ true
 
 module _ (n : ℕ) (t u : Tree) (dt : Deep n t) (du : Deep n u) where
   abbrev g : Tree
-  g = pointwise (λ x y. x && not y) t u
+  g = pointwise andNot t u
 
   no-left : (x y : Bool) → x && not y ≡ false → x ≡ true → y ≡ true
   no-left true true e h = refl
@@ -227,9 +213,9 @@ module _ (n : ℕ) (t u : Tree) (dt : Deep n t) (du : Deep n u) where
   none-left false y h = refl
 
   pub says-no-implies : SaysNo n g true → Within n t u
-  says-no-implies e case h = no-left _ _ (sym (pointwise-look (λ x y. x && not y) n t u dt du case) ∙ ap (λ z. look z case) e ∙ konst-look n false case)
+  says-no-implies e case h = no-left _ _ (sym (pointwise-look andNot n t u dt du case) ∙ ap (λ z. look z case) e ∙ konst-look n false case)
 
   pub says-yes-somewhere : SaysNo n g false → Within n t u → ⊥
   says-yes-somewhere e w =
-      e (look-ext n g (konst n false) (pointwise-deep (λ x y. x && not y) n t u dt du) (konst-deep n false)
-      (λ case h. pointwise-look (λ x y. x && not y) n t u dt du case ∙ none-left _ _ (w case h) ∙ sym (konst-look n false case)))
+      e (look-ext n g (konst n false) (pointwise-deep andNot n t u dt du) (konst-deep n false)
+      (λ case h. pointwise-look andNot n t u dt du case ∙ none-left _ _ (w case h) ∙ sym (konst-look n false case)))

@@ -10,11 +10,10 @@ use lib.ListN.{length, length-append}
 use Rattle.theory.specs.Tree.{Tree, fork, Deep}
 use Rattle.theory.specs.Table.{node, Table, at, find, grow, mk, walk, Ordered}
 use Rattle.theory.specs.Words.{nodes}
-use Rattle.theory.proofs.Step.{Stands}
 use Rattle.theory.proofs.Find.{Fresh, Present, grow-cases, mk-same, mk-other}
-use Rattle.theory.proofs.Walk.{Walked, sound, stands-old}
+use Rattle.theory.proofs.Walk.{Walked}
 use Rattle.theory.proofs.Words.{length-nodes}
-use Rattle.theory.proofs.Again.{walk-grows}
+use Rattle.theory.proofs.Forks.{low-over, high-over, low-walked, high-walked, fork-is, low-stands}
 use Rattle.refusal.specs.Limits.{maxNodes}
 use Rattle.table.specs.declared.BddPointer.{BddPointer}
 use Rattle.pool.specs.declared.Noted.{Noted}
@@ -46,13 +45,6 @@ mk-grown s l p q h = elim (ℕ-discrete p q) [
     go : Fresh s (node l p q) ⊎ Present s (node l p q) → Grown s (grow s (node l p q), find s (node l p q))
     go (inl f) = rw (f .table, f .place) (record { more = node l p q ∷ []; grown = refl; lies = omega (arith, length-append s (node l p q ∷ [])) })
     go (inr f) = rw (f .table) (record { more = []; grown = sym (append-nil s); lies = f .place })
-
-pub mk-more : (s : Table) (l p q : ℕ) → p < length s → length s ≤ length ((mk s l p q) .0)
-mk-more s l p q h = let g : Grown s (mk s l p q) = mk-grown s l p q h in omega (arith, ap length (g .grown), length-append s (g .more))
-
-walk-fork : (s : Table) (l : ℕ) (lo hi : Tree) (s₁ : Table) (p : ℕ) → walk s (suc l) lo ≡ (s₁, p) → walk s l (fork lo hi) ≡ mk ((walk s₁ (suc l) hi) .0) l p ((walk s₁ (suc l) hi) .1)
-unfolding walk
-walk-fork s l lo hi s₁ p e = rw e
 
 -- ---- the node over both sides
 module _ (out m : List ℕ) (j : Job) (k : ℕ) (c : Cut) (p q : ℕ) (r : Settling out m j k c p q) where
@@ -124,9 +116,6 @@ module _ (a b out m : List ℕ) (j : Job) (l k x y : ℕ) (r : Joining a b out m
     abbrev high-tree : Tree
     high-tree = pairTree T (suc v) (c .high .left .0) (c .high .right .0)
 
-    whole : suc v + (n - suc v) ≡ n
-    whole = omega (arith, d .below)
-
     low-deep : Deep (n - suc v) low-tree
     low-deep = tree-deep T oa ob (suc v) (c .low .left .0) (c .low .right .0)
 
@@ -153,19 +142,8 @@ module _ (a b out m : List ℕ) (j : Job) (l k x y : ℕ) (r : Joining a b out m
     split-walk : walk s l (pairTree T l x y) ≡ walk s v (fork low-tree high-tree)
     split-walk = d .walks s (r .good) l from-top ∙ ap (walk s v) (d .forks)
 
-    walked-low : Walked n s (n - suc v) (suc v) low-tree (walk s (suc v) low-tree)
-    walked-low = sound n (n - suc v) low-tree low-deep (suc v) whole s (r .good)
-
     pub low-full : j .room < length ((walk s (v + 1) (pairTree T (v + 1) (c .low .left .0) (c .low .right .0))) .0) → j .room < length ((walk s l (pairTree T l x y)) .0)
-    low-full h =
-        let h′ : j .room < length ((walk s (suc v) low-tree) .0) = rw (add-one v) at h in
-        let s₁ : Table = (walk s (suc v) low-tree) .0 in
-        let w₂ : Walked n ((walk s (suc v) low-tree) .0) (n - suc v) (suc v) high-tree (walk ((walk s (suc v) low-tree) .0) (suc v) high-tree) =
-        sound n (n - suc v) high-tree high-deep (suc v) whole ((walk s (suc v) low-tree) .0) (walked-low .good) in
-        let grows : length ((walk s (suc v) low-tree) .0) ≤ length ((walk ((walk s (suc v) low-tree) .0) (suc v) high-tree) .0) =
-        walk-grows n (n - suc v) high-tree high-deep (suc v) whole ((walk s (suc v) low-tree) .0) (walked-low .good) in
-        rw (split-walk, walk-fork s v low-tree high-tree ((walk s (suc v) low-tree) .0) ((walk s (suc v) low-tree) .1) refl)
-        (omega (arith, h′, grows, mk-more ((walk ((walk s (suc v) low-tree) .0) (suc v) high-tree) .0) v ((walk s (suc v) low-tree) .1) ((walk ((walk s (suc v) low-tree) .0) (suc v) high-tree) .1) (omega (arith, grows, walked-low .stands .lies))))
+    low-full h = rw split-walk (low-over n s (r .good) v (d .below) low-tree high-tree low-deep high-deep _ _ refl (j .room) (rw (add-one v) at h))
 
     -- what a descent of a pair gives, by its answer
     module _ (out′ out″ m″ : List ℕ) (k′ : ℕ) (p : Pair) (z : Noted) (joins : Joins a b out′ out″ m″ j (v + 1) k′ (p .left .0) (p .right .0) z) where
@@ -184,7 +162,7 @@ module _ (a b out m : List ℕ) (j : Job) (l k x y : ℕ) (r : Joining a b out m
       is₁ = rw (add-one v) at (u .holds .is)
 
       walked₁ : Walked n s (n - suc v) (suc v) low-tree (s₁, p)
-      walked₁ = subst (Walked n s (n - suc v) (suc v) low-tree) is₁ walked-low
+      walked₁ = low-walked n s (r .good) v (d .below) low-tree high-tree low-deep high-deep s₁ p is₁
 
       pub high-ready : Joining a b out₁ m₁ j (v + 1) k₁ (c .high .left .0) (c .high .right .0)
       high-ready = record {
@@ -197,17 +175,8 @@ module _ (a b out m : List ℕ) (j : Job) (l k x y : ℕ) (r : Joining a b out m
         known = u .known;
       }
 
-      split-walk₁ : walk s l (pairTree T l x y) ≡ mk ((walk s₁ (suc v) high-tree) .0) v p ((walk s₁ (suc v) high-tree) .1)
-      split-walk₁ = split-walk ∙ walk-fork s v low-tree high-tree s₁ p is₁
-
-      walked-high : Walked n s₁ (n - suc v) (suc v) high-tree (walk s₁ (suc v) high-tree)
-      walked-high = sound n (n - suc v) high-tree high-deep (suc v) whole s₁ (walked₁ .good)
-
       pub high-full : j .room < length ((walk s₁ (v + 1) (pairTree T (v + 1) (c .high .left .0) (c .high .right .0))) .0) → j .room < length ((walk s l (pairTree T l x y)) .0)
-      high-full h =
-          let h′ : j .room < length ((walk s₁ (suc v) high-tree) .0) = rw (add-one v) at h in
-          let grows : length s₁ ≤ length ((walk s₁ (suc v) high-tree) .0) = walk-grows n (n - suc v) high-tree high-deep (suc v) whole s₁ (walked₁ .good) in
-          rw split-walk₁ (omega (arith, mk-more ((walk s₁ (suc v) high-tree) .0) v p ((walk s₁ (suc v) high-tree) .1) (omega (arith, grows, walked₁ .stands .lies))))
+      high-full h = rw split-walk (high-over n s (r .good) v (d .below) low-tree high-tree low-deep high-deep s₁ p is₁ (j .room) (rw (add-one v) at h))
 
       -- the high pair is q
       module _ (out₂ m₂ : List ℕ) (q k₂ : ℕ) (n₂ : length out₂ ≡ length out₁) (e₂ : length m₂ ≡ length m₁) (w : Joined a b out₁ out₂ m₂ j (v + 1) k₁ (c .high .left .0) (c .high .right .0) q k₂) where
@@ -218,13 +187,10 @@ module _ (a b out m : List ℕ) (j : Job) (l k x y : ℕ) (r : Joining a b out m
         is₂ = rw (add-one v) at (w .holds .is)
 
         walked₂ : Walked n s₁ (n - suc v) (suc v) high-tree (s₂, q)
-        walked₂ = subst (Walked n s₁ (n - suc v) (suc v) high-tree) is₂ walked-high
+        walked₂ = high-walked n s (r .good) v (d .below) low-tree high-tree low-deep high-deep s₁ p is₁ s₂ q is₂
 
         split-walk₂ : walk s l (pairTree T l x y) ≡ mk s₂ v p q
-        split-walk₂ = split-walk₁ ∙ ap (λ (z : Table × ℕ). mk (z .0) v p (z .1)) is₂
-
-        low-stands : Stands s₂ (suc v) p
-        low-stands = subst (λ (z : Table). Stands z (suc v) p) (sym (walked₂ .grown)) (stands-old s₁ (walked₂ .more) (suc v) p (walked₁ .stands))
+        split-walk₂ = split-walk ∙ fork-is n s (r .good) v (d .below) low-tree high-tree low-deep high-deep s₁ p is₁ s₂ q is₂
 
         pub settling : Settling out₂ m₂ j k₂ c p q
         settling = record {
@@ -236,7 +202,7 @@ module _ (a b out m : List ℕ) (j : Job) (l k x y : ℕ) (r : Joining a b out m
             pushing = record { few = r .pushing .few; long = omega (arith, r .pushing .long); fits = w .holds .fits };
             good = walked₂ .good;
             level = d .below;
-            low = low-stands;
+            low = low-stands n s (r .good) v (d .below) low-tree high-tree low-deep high-deep s₁ p is₁ s₂ q is₂;
             high = walked₂ .stands;
           };
         }
@@ -252,7 +218,7 @@ module _ (a b out m : List ℕ) (j : Job) (l k x y : ℕ) (r : Joining a b out m
           own = sym (d .walks s (r .good) l from-top) ∙ is₃
 
           grown₃ : Grown s₂ (s₃, o)
-          grown₃ = subst (Grown s₂) (t .holds .is) (mk-grown s₂ v p q (low-stands .lies))
+          grown₃ = subst (Grown s₂) (t .holds .is) (mk-grown s₂ v p q (low-stands n s (r .good) v (d .below) low-tree high-tree low-deep high-deep s₁ p is₁ s₂ q is₂ .lies))
 
           slots₂ : j .right .count ≤ length m₂ / ways
           slots₂ = omega (arith, r .operands .slots)

@@ -1,8 +1,8 @@
 -- The small functions of the join.
-use mathlib.Core.Path.{_≡_, refl, sym, subst, _∙_}
+use mathlib.Core.Path.{_≡_, sym, subst, _∙_}
 use mathlib.Core.Bool.{Bool, true, false}
 use mathlib.Core.List.{List}
-use Prim.Native.Nat.{ℕ, zero, suc, _+_, _*_, _/_, _%_, _^_, _<_}
+use Prim.Native.Nat.{ℕ, _+_, _*_, _/_, _%_, _^_, _<_}
 use native.Mathlib.Omega.{arith}
 use native.Mathlib.Decide.{ℕ-discrete}
 use lib.Dec.{eqb}
@@ -11,6 +11,7 @@ use Rattle.theory.specs.Table.{childOf, truth, num, step}
 use Rattle.theory.specs.Words.{nodeAt, nodes}
 use Rattle.theory.proofs.Words.{at-nodes}
 use Rattle.theory.proofs.Masks.{bit-shift}
+use Rattle.theory.proofs.Walk.{num-truth}
 use Rattle.table.specs.declared.BddPointer.{BddPointer}
 use Rattle.pool.specs.declared.Found.{Found}
 use Rattle.pool.specs.declared.Found.the-variants.{At, Nowhere}
@@ -35,15 +36,10 @@ step-in count w v b p h = rw (at-nodes count w p h)
 num-odd : (c : ℕ) → num (eqb (c % 2) 1) ≡ c % 2
 num-odd c = elim (ℕ-discrete (c % 2) 1) [ yes e ↦ rw (eq-eqb (c % 2) 1 e) (sym e) | no e ↦ rw (ne-eqb (c % 2) 1 e) (omega arith) ]
 
-number-of : (p : ℕ) → p < 2 → num (truth p) ≡ p
-number-of zero h = refl
-number-of (suc zero) h = refl
-number-of (suc (suc p)) h = absurd (let z : ⊥ = omega arith in z)
-
 pub op-is : (op x y : ℕ) → x < 2 → y < 2 → op / 2 ^ (2 * x + y) % 2 ≡ num (opOf op (truth x) (truth y))
 unfolding opOf
 op-is op x y hx hy =
-    sym (rw (number-of x hx, number-of y hy, bit-shift (2 * x + y) op) (num-odd (op / 2 ^ (2 * x + y))))
+    sym (rw (num-truth x hx, num-truth y hy, bit-shift (2 * x + y) op) (num-odd (op / 2 ^ (2 * x + y))))
 
 -- ---- a constant that decides alone
 pub decides-left : (op x r s : ℕ) → r ≡ num (opOf op (truth x) false) → s ≡ num (opOf op (truth x) true) → r ≡ s → (v : Bool) → r ≡ num (opOf op (truth x) v)

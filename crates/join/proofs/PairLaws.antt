@@ -9,7 +9,7 @@ use native.Mathlib.Decide.{ℕ-discrete, decLt}
 use lib.ListN.{length}
 use borrow.Author.Tests.{eq-eqb, ne-eqb}
 use Rattle.theory.specs.Tree.{Tree, leaf, fork, Deep, pointwise, konst, lifted}
-use Rattle.theory.specs.Table.{Node, node, Table, at, step, childOf, truth, num, walk, Ordered, Good}
+use Rattle.theory.specs.Table.{Node, Table, at, step, childOf, truth, num, walk, Ordered, Good}
 use Rattle.theory.proofs.Step.{step-here, step-skip, treeOf-append}
 use Rattle.theory.proofs.Walk.{Walked, sound, found, stands-old}
 use Rattle.theory.proofs.Cases.{pointwise-deep}

@@ -1,10 +1,8 @@
 -- Operations as truth tables, and a set mark that sets nothing.
-use mathlib.Core.Path.{_≡_, refl, ap₂}
+use mathlib.Core.Path.{_≡_, refl}
 use mathlib.Core.Bool.{Bool, true, false, not, _||_, _&&_}
-use Prim.Native.Nat.{ℕ, zero, suc, _≤_}
-use native.Mathlib.Omega.{arith}
 use Rattle.theory.specs.Mask.{bit}
-use Rattle.theory.specs.Tree.{Tree, leaf, fork, Deep, cofactor}
+use Rattle.theory.specs.Tree.{andNot}
 use Rattle.join.specs.Task.{opOf}
 
 pub and-table : opOf 8 ≡ _&&_
@@ -27,7 +25,7 @@ or-table = λ i x y. entry x y i
     entry false true = refl
     entry false false = refl
 
-pub and-not-table : opOf 4 ≡ (λ x y. x && not y)
+pub and-not-table : opOf 4 ≡ andNot
 unfolding opOf bit
 and-not-table = λ i x y. entry x y i
   where
@@ -36,12 +34,3 @@ and-not-table = λ i x y. entry x y i
     entry true false = refl
     entry false true = refl
     entry false false = refl
-
--- a mark that the function has not sets nothing
-pub cofactor-none : (k i : ℕ) (b : Bool) (t : Tree) → Deep k t → k ≤ i → cofactor i b t ≡ t
-unfolding cofactor
-cofactor-none zero i b (leaf c) d h = refl
-cofactor-none zero i b (fork lo hi) d h = absurd d
-cofactor-none (suc k) i b (leaf c) d h = absurd d
-cofactor-none (suc k) zero b (fork lo hi) d h = absurd (let z : ⊥ = omega arith in z)
-cofactor-none (suc k) (suc i) b (fork lo hi) d h = ap₂ fork (cofactor-none k i b lo (d .0) (omega arith)) (cofactor-none k i b hi (d .1) (omega arith))

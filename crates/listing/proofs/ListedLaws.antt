@@ -87,3 +87,10 @@ module _ (fs overs : List Finding) (xs : List Clause) where
         (cleared-outcome _ s out out′ work work′ (clean _ ∙ left .refuses _) (left .zeroes)
         (settled .output ∙ ap (padded []) same-out)
         (settled .memory ∙ ap (padded []) same-work))
+
+-- the three equations of an entry that lists clauses
+abbrev pub Equations : Verdict → Listed → List ℕ → List ℕ → List ℕ → List ℕ → Type 0
+Equations v r out out′ work work′ = (listedReply r ≡ replied v) × ((out′ ≡ outputAfter 0 v out) × (work′ ≡ workAfter v work))
+
+pub equations : (v : Verdict) (r : Listed) (out out′ work work′ : List ℕ) → Outcome v r out out′ work work′ → Equations v r out out′ work work′
+equations v r out out′ work work′ o = (o .reply, (o .output, o .memory))

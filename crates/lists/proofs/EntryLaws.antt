@@ -7,8 +7,7 @@ use native.Mathlib.Omega.{arith}
 use lib.ListN.{length}
 use Rattle.theory.specs.Words.{nodes}
 use Rattle.refusal.specs.Limits.{plainWork}
-use Rattle.refusal.specs.Buffers.{outputAfter, workAfter}
-use Rattle.refusal.specs.Verdict.{Verdict, judged, replied}
+use Rattle.refusal.specs.Verdict.{judged, replied}
 use Rattle.refusal.specs.declared.Refusal.{Refusal}
 use Rattle.table.specs.declared.BddPointer.{BddPointer}
 use Rattle.table.specs.declared.Inspection.{Inspection}
@@ -22,17 +21,10 @@ use Rattle.paths.specs.Paths.{pathList}
 use Rattle.listing.specs.declared.Listed.{Listed}
 use Rattle.listing.specs.declared.Listed.the-variants as listed
 use Rattle.listing.specs.declared.Written.{Written}
-use Rattle.listing.specs.Listed.{listedReply, Settling, Settles}
+use Rattle.listing.specs.Listed.{Settling, Settles}
 use Rattle.listing.specs.Listing.{tooManyPaths, ListsPaths}
-use Rattle.listing.proofs.ListedLaws.{Outcome, settling, lists-refused, lists-settled}
+use Rattle.listing.proofs.ListedLaws.{settling, lists-refused, lists-settled, Equations, equations}
 use Rattle.lists.specs.Lists.{listsPaths}
-
--- the three equations of a list
-abbrev pub Equations : Verdict → Listed → List ℕ → List ℕ → List ℕ → List ℕ → Type 0
-Equations v r out out′ work work′ = (listedReply r ≡ replied v) × ((out′ ≡ outputAfter 0 v out) × (work′ ≡ workAfter v work))
-
-equations : (v : Verdict) (r : Listed) (out out′ work work′ : List ℕ) → Outcome v r out out′ work work′ → Equations v r out out′ work work′
-equations v r out out′ work work′ o = (o .reply, (o .output, o .memory))
 
 module _ (b : Bool) (n count : ℕ) (words out work : List ℕ) (a : Inspection) (e : inspectionReply a ≡ replied (judged (workFindings n count words work) (rootOf count))) where
   pub list-refused : (r q : Refusal) → a ≡ Refused r → q ≡ refusalIn a → Equations (listsPaths b n count words out work) (listed.Refused q) out out work work

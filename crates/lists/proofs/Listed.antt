@@ -10,13 +10,13 @@ use native.Mathlib.Decide.{decLt}
 use lib.Dec.{ltb}
 use lib.ListN.{length}
 use borrow.Author.Tests.{lt-ltb, le-ltb}
-use Rattle.theory.specs.Tree.{Deep, tally}
+use Rattle.theory.specs.Tree.{tally}
 use Rattle.theory.specs.Table.{meaning, Ordered}
 use Rattle.theory.specs.Words.{nodes}
 use Rattle.theory.specs.Clause.{Clause, emptyClause}
 use Rattle.theory.proofs.Cases.{caseCount-tally}
 use Rattle.theory.proofs.Clauses.{empty-formed}
-use Rattle.theory.proofs.Small.{treeOf-deep}
+use Rattle.theory.proofs.Small.{meaning-deep}
 use Rattle.refusal.specs.Number.{CLAUSES, order}
 use Rattle.refusal.specs.Buffers.{zeroing}
 use Rattle.refusal.specs.Verdict.{Verdict, refused, answered, firstOf, tried, judged, replied}
@@ -125,10 +125,6 @@ module _ (b : Bool) (n count : ℕ) (words out work : List ℕ) where
 
 -- ---- DNF and CNF
 module _ (n count : ℕ) (words : List ℕ) where
-  meaning-deep : Deep n (meaning n (nodes count words))
-  unfolding meaning
-  meaning-deep = treeOf-deep n (nodes count words) 0 (length (nodes count words) - 1)
-
   module _ (out work : List ℕ) (k : ℕ) (result : List ℕ) (e : listsDnf n count words out work ≡ answered (k ∷ []) (result ∷ [])) where
     -- a case satisfies exactly one clause if the table says yes, else none
     pub dnf-exactly-one : (case : ℕ) → hits n (listIn k result) case ≡ cond (tableSays n count words case) 1 0
@@ -140,7 +136,7 @@ module _ (n count : ℕ) (words : List ℕ) where
     dnf-adds-up =
         ap (covered n) (list-clauses true n count words out work k result e)
         ∙ dnf-sum n (nodes count words) (list-ordered true n count words out work k result e)
-        ∙ caseCount-tally n (meaning n (nodes count words)) meaning-deep
+        ∙ caseCount-tally n (meaning n (nodes count words)) (meaning-deep n (nodes count words))
 
     -- over DNF and CNF together to 2^n
     pub both-add-up : (out′ work′ : List ℕ) (k′ : ℕ) (result′ : List ℕ) → listsCnf n count words out′ work′ ≡ answered (k′ ∷ []) (result′ ∷ [])

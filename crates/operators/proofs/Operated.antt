@@ -4,16 +4,17 @@ use mathlib.Core.Bool.{Bool, true, false, not, _||_, _&&_}
 use mathlib.Core.List.{List}
 use Prim.Native.Nat.{ℕ}
 use Rattle.theory.specs.Mask.{setBit}
-use Rattle.theory.specs.Tree.{Deep, pointwise, cofactor}
+use Rattle.theory.specs.Tree.{Deep, pointwise, cofactor, andNot}
 use Rattle.theory.specs.Table.{meaning}
 use Rattle.theory.specs.Words.{nodes}
 use Rattle.theory.proofs.Cases.{pointwise-deep, pointwise-look, cofactor-deep, cofactor-look}
+use Rattle.theory.proofs.Small.{meaning-deep}
 use Rattle.table.specs.Case.{tableSays}
 use Rattle.admission.specs.Admission.{markFindings, pairFindings}
 use Rattle.admission.proofs.Admitted.{mark-quiet, pair-quiet}
 use Rattle.making.specs.Made.{operates}
-use Rattle.operators.specs.Operators.{andNot, makesAnd, makesOr, makesAndNot, makesForAll, makesExists}
-use Rattle.operators.proofs.OperatesLaws.{Operated, meaning-deep, operated}
+use Rattle.operators.specs.Operators.{makesAnd, makesOr, makesAndNot, makesForAll, makesExists}
+use Rattle.operators.proofs.OperatesLaws.{Operated, operated}
 
 -- two tables
 module _ (n lefts : ℕ) (left : List ℕ) (rights : ℕ) (right : List ℕ) (room : ℕ) (out work : List ℕ) where

@@ -14,18 +14,14 @@ use Rattle.theory.specs.Words.{nodes, wordsOf}
 use Rattle.theory.proofs.Words.{nodes-words}
 use Rattle.theory.proofs.Cases.{look-ext}
 use Rattle.theory.proofs.Canon.{canon-means, canon-ordered}
-use Rattle.theory.proofs.Small.{small, treeOf-deep}
+use Rattle.theory.proofs.Small.{small, meaning-deep}
 use Rattle.theory.proofs.Reducing.{canon-reduced}
 use Rattle.refusal.specs.Number.{NODES, order}
 use Rattle.refusal.specs.Buffers.{zeroing}
 use Rattle.refusal.specs.Verdict.{Verdict, refused, answered, Finding, firstOf, tried, judged}
-use Rattle.refusal.proofs.Judged.{Clean, Quiet, judged-either, refused-quiet}
+use Rattle.refusal.proofs.Judged.{Clean, Quiet, judged-either, refused-quiet, not-answered}
 use Rattle.table.specs.Case.{tableSays}
 use Rattle.making.specs.Made.{tableAnswer, makes, operates}
-
-pub meaning-deep : (n : ℕ) (s : Table) → Deep n (meaning n s)
-unfolding meaning
-meaning-deep n s = treeOf-deep n s 0 _
 
 -- the table says so of every case
 abbrev pub Says : ℕ → Table → (ℕ → Bool) → Type 0
@@ -65,9 +61,6 @@ module _ (fs : List Finding) (n room : ℕ) (g : Tree) (deep : Deep n g) (says :
   itself : Says n t says
   itself case h = ap (λ z. look z case) (canon-means n g deep) ∙ means case h
 
-  not-refused : (a k p : ℕ) (outs : List (List ℕ)) (more : List ℕ) → refused k p ≡ answered (a ∷ more) outs → ⊥
-  not-refused a k p outs more e = let z : _≡_ {A = ℕ} 0 1 = cc in omega arith
-
   -- an answer is the canonical table, which fits
   pub record Made-so (k : ℕ) (words : List ℕ) : Type 0 where
     pub count : k ≡ length t
@@ -76,7 +69,7 @@ module _ (fs : List Finding) (n room : ℕ) (g : Tree) (deep : Deep n g) (says :
 
   answers : (k : ℕ) (words : List ℕ) → (b : Bool) → ltb room (length t) ≡ b → cond b (refused NODES 0) (tableAnswer t) ≡ answered (k ∷ []) (words ∷ []) → Made-so k words
   unfolding tableAnswer
-  answers k words true h e = absurd (not-refused k NODES 0 (words ∷ []) [] e)
+  answers k words true h e = absurd (not-answered NODES 0 _ _ e)
   answers k words false h e =
       let ek : length t ≡ k = cc in
       let ew : wordsOf t ≡ words = cc in
@@ -90,13 +83,13 @@ module _ (fs : List Finding) (n room : ℕ) (g : Tree) (deep : Deep n g) (says :
   unfolding makes
   made k words e = elim (judged-either fs) [
     | inl clean ↦ answers k words (ltb room (length t)) refl (sym (clean-verdict clean) ∙ e)
-    | inr c ↦ absurd (not-refused k (c .number) (c .place) (words ∷ []) [] (sym (c .always _) ∙ e))
+    | inr c ↦ absurd (not-answered (c .number) (c .place) _ _ (sym (c .always _) ∙ e))
   ]
 
   over : (p : ℕ) → (b : Bool) → ltb room (length t) ≡ b → cond b (refused NODES 0) (tableAnswer t) ≡ refused NODES p → (p ≡ 0) × (room < length t)
   unfolding tableAnswer
   over p true h e = (cc, ltb-true _ _ h)
-  over p false h e = absurd (not-refused (length t) NODES p (wordsOf t ∷ []) [] (sym e))
+  over p false h e = absurd (not-answered NODES p _ _ (sym e))
 
   refused-nodes : Quiet fs → (p : ℕ) → v ≡ refused NODES p → (p ≡ 0) × (room < length t)
   unfolding makes zeroing

@@ -9,6 +9,8 @@ use lib.ListN.{length}
 use Rattle.theory.specs.Tree.{Tree, pointwise, cofactor}
 use Rattle.theory.specs.Table.{canon, meaning}
 use Rattle.theory.specs.Words.{nodes}
+use Rattle.theory.proofs.Small.{meaning-deep}
+use Rattle.theory.proofs.Turned.{cofactor-past}
 use Rattle.refusal.specs.Number.{order}
 use Rattle.refusal.specs.Limits.{maxNodes}
 use Rattle.refusal.specs.Verdict.{firstOf, tried, judged, replied}
@@ -30,8 +32,6 @@ use Rattle.admission.proofs.Admitted.{refused-outcome, Roomed, mark-quiet, mark
 use Rattle.join.specs.declared.Job.{Job}
 use Rattle.join.specs.Task.{opOf}
 use Rattle.join.specs.Joining.{joinedBy, Given}
-use Rattle.join.proofs.TruthLaws.{cofactor-none}
-use Rattle.operators.proofs.OperatesLaws.{meaning-deep}
 use Rattle.operators.specs.Operators.{pairJob, markJob}
 
 -- ---- the join, settled
@@ -78,8 +78,8 @@ module _ (n lefts : ℕ) (left : List ℕ) (rights : ℕ) (right : List ℕ) (ro
         means : joinedBy left right (pairJob n op lefts rights room) ≡ pointwise f (meaning n (nodes lefts left)) (meaning n (nodes rights right))
         means =
             ap₂ (pointwise (opOf op))
-            (cofactor-none n n false (meaning n (nodes lefts left)) (meaning-deep n (nodes lefts left)) (omega arith))
-            (cofactor-none n n false (meaning n (nodes rights right)) (meaning-deep n (nodes rights right)) (omega arith))
+            (cofactor-past n n false (meaning n (nodes lefts left)) (meaning-deep n (nodes lefts left)) (omega arith))
+            (cofactor-past n n false (meaning n (nodes rights right)) (meaning-deep n (nodes rights right)) (omega arith))
             ∙ ap (λ h. pointwise h (meaning n (nodes lefts left)) (meaning n (nodes rights right))) table
 
 -- ---- one table and a mark

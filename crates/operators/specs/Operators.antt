@@ -1,8 +1,8 @@
 -- What each operator answers, for any input at all: its findings, and the function of its result in one line.
-use mathlib.Core.Bool.{Bool, true, false, not, _||_, _&&_}
+use mathlib.Core.Bool.{true, false, _||_, _&&_}
 use mathlib.Core.List.{List}
 use Prim.Native.Nat.{ℕ}
-use Rattle.theory.specs.Tree.{pointwise, existsMark, forAllMark}
+use Rattle.theory.specs.Tree.{pointwise, andNot, existsMark, forAllMark}
 use Rattle.theory.specs.Table.{meaning}
 use Rattle.theory.specs.Words.{nodes}
 use Rattle.refusal.specs.Verdict.{Verdict}
@@ -10,9 +10,6 @@ use Rattle.making.specs.Made.{operates}
 use Rattle.admission.specs.Admission.{markFindings, pairFindings}
 use Rattle.valuation.specs.declared.BddVariable.{BddVariable}
 use Rattle.join.specs.declared.Job.{Job}
-
-abbrev pub andNot : Bool → Bool → Bool
-andNot x y = x && not y
 
 -- left and right
 unfoldable pub makesAnd : ℕ → ℕ → List ℕ → ℕ → List ℕ → ℕ → List ℕ → List ℕ → Verdict

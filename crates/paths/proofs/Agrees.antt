@@ -6,13 +6,12 @@ use Prim.Native.Nat.{ℕ, _+_, _-_}
 use native.Mathlib.Omega.{arith}
 use native.Mathlib.Nat.{zero-add}
 use lib.Dec.{ltb}
-use lib.ListN.{length}
 use borrow.Author.Tests.{lt-ltb}
 use Rattle.theory.specs.Tree.{look}
 use Rattle.theory.specs.Table.{Table, meaning, Ordered}
 use Rattle.theory.specs.Clause.{Clause}
 use Rattle.theory.proofs.Cases.{look-ext, look-tabulate, tabulate-deep}
-use Rattle.theory.proofs.Small.{treeOf-deep}
+use Rattle.theory.proofs.Small.{meaning-deep}
 use Rattle.cube.specs.Cube.{allHold, oneHolds, dnf, cnf, listSays, listMeans}
 use Rattle.paths.specs.Paths.{pathList, hits, misses}
 use Rattle.paths.proofs.Once.{dnf-once, cnf-once}
@@ -51,5 +50,5 @@ list-says false n s o c = cnf-misses n (pathList false n s) c ∙ ap (λ k. not 
 -- so it means the table's function
 pub list-means : (b : Bool) (n : ℕ) (s : Table) → Ordered n s → listMeans b n (pathList b n s) ≡ meaning n s
 list-means b n s o =
-    look-ext n (listMeans b n (pathList b n s)) (meaning n s) (tabulate-deep n (listSays b n (pathList b n s))) (unfold meaning in treeOf-deep n s 0 (length s - 1))
+    look-ext n (listMeans b n (pathList b n s)) (meaning n s) (tabulate-deep n (listSays b n (pathList b n s))) (meaning-deep n s)
     (λ c h. look-tabulate n (listSays b n (pathList b n s)) c h ∙ list-says b n s o c)

@@ -13,11 +13,12 @@ use borrow.Author.Tests.{eq-eqb, ne-eqb}
 use Rattle.theory.specs.Mask.{odd, bit, setBit}
 use Rattle.theory.specs.Tree.{look}
 use Rattle.theory.specs.Table.{Node, Table, at, truth, says, meaning, Ordered}
-use Rattle.theory.specs.Clause.{Clause, clause, emptyClause, setCell}
+use Rattle.theory.specs.Clause.{Clause, emptyClause, setCell}
 use Rattle.theory.proofs.Masks.{bit-past, bit-setBit, setBit-lt}
 use Rattle.theory.proofs.Step.{Stands, stands-child, mark-le}
 use Rattle.theory.proofs.Cases.{says-look}
 use Rattle.theory.proofs.Levels.{nodeSays, nodeSays-level, nodeSays-step, nodeSays-bottom}
+use Rattle.theory.proofs.Truths.{beq-one}
 use Rattle.cube.specs.Cube.{everyMark, allAre}
 use Rattle.cube.proofs.Runs.{all-hold, one-holds}
 use Rattle.paths.specs.Paths.{ended, pathsFrom, pathList, hits, misses, decides}
@@ -201,11 +202,7 @@ list-once b n s o c =
 
 -- a case satisfies exactly one clause of the path DNF if the table says yes, else none
 pub dnf-once : (n : ℕ) (s : Table) → Ordered n s → (c : ℕ) → hits n (pathList true n s) c ≡ cond (look (meaning n s) c) 1 0
-dnf-once n s o c = sym (decides-hits n (pathList true n s) c) ∙ list-once true n s o c ∙ ap (λ t. cond t 1 0) (same (look (meaning n s) c))
-  where
-    same : (x : Bool) → Bool·beq x true ≡ x
-    same true = refl
-    same false = refl
+dnf-once n s o c = sym (decides-hits n (pathList true n s) c) ∙ list-once true n s o c ∙ ap (λ t. cond t 1 0) (beq-one (look (meaning n s) c))
 
 -- it falsifies exactly one clause of the path CNF if the table says no, else none
 pub cnf-once : (n : ℕ) (s : Table) → Ordered n s → (c : ℕ) → misses n (pathList false n s) c ≡ cond (look (meaning n s) c) 0 1

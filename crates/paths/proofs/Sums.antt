@@ -12,7 +12,7 @@ use Rattle.theory.specs.Table.{Table, meaning, Ordered}
 use Rattle.theory.specs.Clause.{Clause, marksOf}
 use Rattle.theory.proofs.Cases.{odd-even, odd-odd, half-even, half-odd, look-even, look-odd}
 use Rattle.theory.proofs.Marks.{number-low, marks-le}
-use Rattle.theory.proofs.Small.{treeOf-deep}
+use Rattle.theory.proofs.Small.{meaning-deep}
 use Rattle.cube.specs.Cube.{allAre}
 use Rattle.paths.specs.Paths.{pathList, decides, covered}
 use Rattle.paths.proofs.Once.{list-once}
@@ -111,7 +111,7 @@ list-total b n s o = covered-total b n (pathList b n s) ∙ total-same n _ _ (li
 
 -- 2^(n - k) summed over the DNF is the case count
 pub dnf-sum : (n : ℕ) (s : Table) → Ordered n s → covered n (pathList true n s) ≡ caseCount (meaning n s)
-dnf-sum n s o = list-total true n s o ∙ look-total n (meaning n s) (unfold meaning in treeOf-deep n s 0 (length s - 1))
+dnf-sum n s o = list-total true n s o ∙ look-total n (meaning n s) (meaning-deep n s)
 
 -- over DNF and CNF together it is 2^n
 pub both-sum : (n : ℕ) (s : Table) → Ordered n s → covered n (pathList true n s) + covered n (pathList false n s) ≡ 2 ^ n

@@ -8,14 +8,15 @@ use native.Mathlib.Omega.{arith}
 use native.Mathlib.Numerals.{add-one}
 use lib.ListN.{length, length-append}
 use Rattle.theory.specs.Tree.{Tree, fork, Deep}
-use Rattle.theory.specs.Table.{Node, node, Table, at, step, treeOf, truth, mk, walk, Good}
+use Rattle.theory.specs.Table.{Node, Table, at, step, treeOf, truth, mk, walk, Good}
 use Rattle.theory.specs.Words.{nodes}
 use Rattle.theory.proofs.Step.{Stands, stands-step, step-append}
-use Rattle.theory.proofs.Walk.{Walked, sound, found, stands-old, at-old, mk-sound}
+use Rattle.theory.proofs.Walk.{Walked, sound, stands-old, at-old}
 use Rattle.theory.proofs.Words.{length-nodes}
-use Rattle.theory.proofs.Again.{walk-again, walk-grows}
-use Rattle.theory.proofs.Turned.{mk-grows, walk-fork}
-use Rattle.cube.proofs.Cubes.{part-deep, part-append, stays}
+use Rattle.theory.proofs.Again.{walk-again}
+use Rattle.theory.proofs.Turned.{walk-stays}
+use Rattle.theory.proofs.Forks.{low-over, high-over, low-walked, high-walked, fork-is, low-stands, node-walked}
+use Rattle.cube.proofs.Cubes.{part-deep, part-append}
 use Rattle.put.specs.declared.Job.{Job}
 use Rattle.put.specs.declared.Cut.{Cut}
 use Rattle.pool.specs.declared.Noted.{Noted}
@@ -67,17 +68,14 @@ module _ (w : List ℕ) (j : Job) (l k a : ℕ) (off : Bool) (r : Ready w j l k 
     chained = r .chained;
   }
 
+  lo-deep : Deep (j .n - suc v) lo-tree
+  lo-deep = tree-deep j s (suc v) (c .low .0) (c .lowkept)
+
+  hi-deep : Deep (j .n - suc v) hi-tree
+  hi-deep = tree-deep j s (suc v) (c .high .0) (c .highkept)
+
   pub full-lo : j .cap < length ((walk s (v + 1) (tree j s (v + 1) (c .low .0) (c .lowkept))) .0) → j .cap < length ((walk s l T) .0)
-  full-lo h =
-      let h′ : j .cap < length ((walk s (suc v) lo-tree) .0) = rw (add-one v) at h in
-      let y : Table × ℕ = walk s (suc v) lo-tree in
-      let a₁ : Walked (j .n) s (j .n - suc v) (suc v) lo-tree (walk s (suc v) lo-tree) = sound (j .n) (j .n - suc v) lo-tree (tree-deep j s (suc v) (c .low .0) (c .lowkept)) (suc v) whole s (r .good) in
-      rw (d .walks, walk-fork s v lo-tree hi-tree ((walk s (suc v) lo-tree) .0) ((walk s (suc v) lo-tree) .1) refl)
-      (omega (
-        arith,
-        mk-grows ((walk ((walk s (suc v) lo-tree) .0) (suc v) hi-tree) .0) v ((walk s (suc v) lo-tree) .1) ((walk ((walk s (suc v) lo-tree) .0) (suc v) hi-tree) .1),
-        walk-grows (j .n) (j .n - suc v) hi-tree (tree-deep j s (suc v) (c .high .0) (c .highkept)) (suc v) whole ((walk s (suc v) lo-tree) .0) (a₁ .good),
-      ))
+  full-lo h = rw (d .walks) (low-over (j .n) s (r .good) v (d .below) lo-tree hi-tree lo-deep hi-deep _ _ refl (j .cap) (rw (add-one v) at h))
 
   -- the low side is p, in w₁
   module _ (w₁ : List ℕ) (p k₁ : ℕ) (n₁ : length w₁ ≡ length w) (u : Put w w₁ j (v + 1) k (c .low .0) (c .lowkept) p k₁) where
@@ -88,7 +86,7 @@ module _ (w : List ℕ) (j : Job) (l k a : ℕ) (off : Bool) (r : Ready w j l k 
     is₁ = rw (add-one v) at (u .holds .is)
 
     sound₁ : Walked (j .n) s (j .n - suc v) (suc v) lo-tree (s₁, p)
-    sound₁ = subst (λ z. Walked (j .n) s (j .n - suc v) (suc v) lo-tree z) is₁ (sound (j .n) (j .n - suc v) lo-tree (tree-deep j s (suc v) (c .low .0) (c .lowkept)) (suc v) whole s (r .good))
+    sound₁ = low-walked (j .n) s (r .good) v (d .below) lo-tree hi-tree lo-deep hi-deep s₁ p is₁
 
     hi-stands₁ : Stands s₁ (suc v) (c .high .0)
     hi-stands₁ = subst (λ (z : Table). Stands z (suc v) (c .high .0)) (sym (sound₁ .grown)) (stands-old s (sound₁ .more) (suc v) (c .high .0) hi-stands)
@@ -114,13 +112,8 @@ module _ (w : List ℕ) (j : Job) (l k a : ℕ) (off : Bool) (r : Ready w j l k 
     hi-same = ap (λ (z : Table). tree j z (suc v) (c .high .0) (c .highkept)) (sound₁ .grown)
         ∙ part-append (truth (j .term)) (j .fixed) (j .values) (j .n) s (r .good .ordered) (sound₁ .more) (j .n - suc v) (suc v) (c .high .0) (c .highkept) whole hi-stands
 
-    split₁ : walk s l T ≡ mk ((walk s₁ (suc v) hi-tree) .0) v p ((walk s₁ (suc v) hi-tree) .1)
-    split₁ = d .walks ∙ walk-fork s v lo-tree hi-tree s₁ p is₁
-
     pub full-hi : j .cap < length ((walk s₁ (v + 1) (tree j s₁ (v + 1) (c .high .0) (c .highkept))) .0) → j .cap < length ((walk s l T) .0)
-    full-hi h =
-        let h′ : j .cap < length ((walk s₁ (suc v) hi-tree) .0) = rw (add-one v, hi-same) at h in
-        rw split₁ (omega (arith, mk-grows ((walk s₁ (suc v) hi-tree) .0) v p ((walk s₁ (suc v) hi-tree) .1)))
+    full-hi h = rw (d .walks) (high-over (j .n) s (r .good) v (d .below) lo-tree hi-tree lo-deep hi-deep s₁ p is₁ (j .cap) (rw (add-one v, hi-same) at h))
 
     -- the high side is q, in w₂
     module _ (w₂ : List ℕ) (q k₂ : ℕ) (n₂ : length w₂ ≡ length w₁) (x : Put w₁ w₂ j (v + 1) k₁ (c .high .0) (c .highkept) q k₂) where
@@ -131,10 +124,10 @@ module _ (w : List ℕ) (j : Job) (l k a : ℕ) (off : Bool) (r : Ready w j l k 
       is₂ = rw (add-one v, hi-same) at (x .holds .is)
 
       sound₂ : Walked (j .n) s₁ (j .n - suc v) (suc v) hi-tree (s₂, q)
-      sound₂ = subst (λ z. Walked (j .n) s₁ (j .n - suc v) (suc v) hi-tree z) is₂ (sound (j .n) (j .n - suc v) hi-tree (tree-deep j s (suc v) (c .high .0) (c .highkept)) (suc v) whole s₁ (sound₁ .good))
+      sound₂ = high-walked (j .n) s (r .good) v (d .below) lo-tree hi-tree lo-deep hi-deep s₁ p is₁ s₂ q is₂
 
       split₂ : walk s l T ≡ mk s₂ v p q
-      split₂ = split₁ ∙ ap (λ (z : Table × ℕ). mk (z .0) v p (z .1)) is₂
+      split₂ = d .walks ∙ fork-is (j .n) s (r .good) v (d .below) lo-tree hi-tree lo-deep hi-deep s₁ p is₁ s₂ q is₂
 
       more₂ : Table
       more₂ = sound₁ .more ++ sound₂ .more
@@ -155,7 +148,7 @@ module _ (w : List ℕ) (j : Job) (l k a : ℕ) (off : Bool) (r : Ready w j l k 
           pushing = record { few = r .few; long = omega (arith, r .long); fits = x .holds .fits };
           good = sound₂ .good;
           level = d .below;
-          low = subst (λ (z : Table). Stands z (suc v) p) (sym (sound₂ .grown)) (stands-old s₁ (sound₂ .more) (suc v) p (sound₁ .stands));
+          low = low-stands (j .n) s (r .good) v (d .below) lo-tree hi-tree lo-deep hi-deep s₁ p is₁ s₂ q is₂;
           high = sound₂ .stands;
         };
         long = omega (arith, r .long);
@@ -184,8 +177,7 @@ module _ (w : List ℕ) (j : Job) (l k a : ℕ) (off : Bool) (r : Ready w j l k 
         sound₃ = subst (λ z. Walked (j .n) s (j .n - l) l T z) is₃ (sound (j .n) (j .n - l) T (tree-deep j s l a off) l n-whole s (r .good))
 
         mk₃ : Walked (j .n) s₂ (suc (j .n - suc v)) v (fork (treeOf (j .n - suc v) s₂ (suc v) p) (treeOf (j .n - suc v) s₂ (suc v) q)) (s₃, o)
-        mk₃ = subst (λ z. Walked (j .n) s₂ (suc (j .n - suc v)) v (fork (treeOf (j .n - suc v) s₂ (suc v) p) (treeOf (j .n - suc v) s₂ (suc v) q)) z) (y .holds .is)
-            (mk-sound (j .n) s₂ (sound₂ .good) (j .n - suc v) v p q whole (settling .noded .low) (settling .noded .high))
+        mk₃ = node-walked (j .n) s (r .good) v (d .below) lo-tree hi-tree lo-deep hi-deep s₁ p is₁ s₂ q is₂ s₃ o (y .holds .is)
 
         pub o-small : o < k₃
         o-small = omega (arith, sound₃ .stands .lies, length-nodes k₃ w₃)
@@ -213,7 +205,7 @@ module _ (w : List ℕ) (j : Job) (l k a : ℕ) (off : Bool) (r : Ready w j l k 
               part-append (truth (j .term)) (j .fixed) (j .values) (j .n) s₂ (sound₂ .good .ordered) (mk₃ .more) (j .n - (at s₂ i) .mark) ((at s₂ i) .mark) i false
                   (omega (arith, mark-in i h)) (record { lies = h; fits = omega arith }),
             )
-                (stays (j .n) s₂ (mk₃ .more) (sound₂ .good) (subst (Good (j .n)) (mk₃ .grown) (mk₃ .good)) (j .n - (at s₂ i) .mark) ((at s₂ i) .mark) e _
+                (walk-stays (j .n) s₂ (mk₃ .more) (sound₂ .good) (subst (Good (j .n)) (mk₃ .grown) (mk₃ .good)) (j .n - (at s₂ i) .mark) ((at s₂ i) .mark) e _
                 (tree-deep j s₂ ((at s₂ i) .mark) i false) (omega (arith, mark-in i h)) f)
 
         -- the new word says what was found

@@ -9,7 +9,7 @@ use native.Mathlib.Decide.{ℕ-discrete}
 use lib.ListN.{length, getD, set}
 use lib.Seq.{getD-set-same, getD-set-other}
 use Rattle.theory.specs.Tree.{Tree, fork}
-use Rattle.theory.specs.Table.{node, Table, treeOf, mk}
+use Rattle.theory.specs.Table.{Table, treeOf, mk}
 use Rattle.theory.specs.Words.{nodes}
 use Rattle.theory.proofs.Walk.{Walked, mk-own, mk-sound}
 use Rattle.theory.proofs.Words.{length-nodes, nodes-agree}

@@ -1,6 +1,6 @@
 -- What `split` rests on.
 use mathlib.Core.Path.{_≡_, sym, ap, ap₂, subst, _∙_}
-use mathlib.Core.Bool.{Bool, true, false, not, true≢false}
+use mathlib.Core.Bool.{Bool, true, false, true≢false}
 use mathlib.Core.List.{List}
 use mathlib.Core.Logic.{_≢_}
 use Prim.Native.Nat.{ℕ, zero, suc, _+_, _-_, _/_, _%_, _^_, _<_, _≤_}
@@ -9,7 +9,7 @@ use native.Mathlib.Nat.{div-le-self, pow-le-pow-right}
 use native.Mathlib.Decide.{ℕ-discrete, decLt}
 use lib.Count.{trailingZeros, trailing-le}
 use Rattle.theory.specs.Tree.{fork}
-use Rattle.theory.specs.Table.{Node, node, Table, at, step, truth, num, walk}
+use Rattle.theory.specs.Table.{Node, Table, at, step, truth, num, walk}
 use Rattle.theory.specs.Words.{nodeAt, nodes}
 use Rattle.theory.proofs.Step.{step-here, step-skip}
 use Rattle.theory.proofs.Walk.{num-truth}

@@ -4,10 +4,10 @@ use mathlib.Core.Bool.{Bool, true, false, not, _&&_, Bool·beq}
 use mathlib.Core.Logic.{_⊎_}
 use mathlib.Core.List.{List}
 use Prim.Native.Nat.{ℕ, suc, _+_, _-_, _*_, _/_, _%_, _^_, _<_, _≤_}
-use lib.ListN.{length, getD, set}
+use lib.ListN.{length, getD}
 use Rattle.theory.specs.Tree.{Tree, fork}
 use Rattle.theory.specs.Mask.{odd}
-use Rattle.theory.specs.Table.{node, Table, at, step, truth, mk, walk, Good}
+use Rattle.theory.specs.Table.{Table, at, step, truth, mk, walk, Good}
 use Rattle.theory.specs.Words.{nodes}
 use Rattle.theory.proofs.Step.{Stands}
 use Rattle.cube.specs.Cube.{part}

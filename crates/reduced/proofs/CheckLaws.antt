@@ -11,10 +11,10 @@ use borrow.Author.Tests.{lt-ltb, le-ltb}
 use Rattle.theory.specs.Table.{Reduced}
 use Rattle.theory.specs.Words.{nodes}
 use Rattle.refusal.specs.Number.{order, LIMIT, SHORT, TABLE, REDUCED}
-use Rattle.refusal.specs.Verdict.{Verdict, refused, answered, firstOf, tried, judged, replied, refusedWith, gives, Reply}
+use Rattle.refusal.specs.Verdict.{Verdict, refused, answered, firstOf, tried, judged, replied, refusedWith, gives}
 use Rattle.refusal.specs.declared.Refusal.{Refusal}
 use Rattle.refusal.proofs.Firsts.{first-before, first-fails}
-use Rattle.refusal.proofs.Judged.{Clean, Caught, judged-either}
+use Rattle.refusal.proofs.Judged.{Clean, judged-either}
 use Rattle.table.specs.declared.BddPointer.{BddPointer}
 use Rattle.table.specs.declared.Inspection.{Inspection}
 use Rattle.table.specs.declared.Inspection.the-variants.{Sound, Refused}
@@ -22,7 +22,7 @@ use Rattle.table.specs.Inspection.{inspectionReply, refusalIn, overLimit, tooSh
 use Rattle.table.proofs.AdmissionLaws.{admission-refused, admission-clean}
 use Rattle.table.proofs.Inspected.{inspects-sound, sound-inspects}
 use Rattle.reduced.specs.Reduced.{nodeReduced, firstUnreduced, admitsWalk}
-use Rattle.reduced.proofs.ReducedLaws.{none-unreduced, unreduced-none, clash}
+use Rattle.reduced.proofs.ReducedLaws.{none-unreduced, unreduced-none}
 
 module _ (n count : ℕ) (w : List ℕ) where
   -- the verdict of a sound table

@@ -1,7 +1,6 @@
 -- Small tables, computed.
 use mathlib.Core.Path.{_≡_, refl}
-use mathlib.Core.List.{List, [], _∷_}
-use Prim.Native.Nat.{ℕ}
+use mathlib.Core.List.{[], _∷_}
 use Rattle.theory.specs.Table.{nodeOk, linkOk}
 use Rattle.theory.specs.Words.{nodes}
 use Rattle.refusal.specs.Number.{order, REDUCED}

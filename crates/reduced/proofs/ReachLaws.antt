@@ -1,30 +1,19 @@
 -- A computed path of links, and reachability by a case.
 use mathlib.Core.Path.{_≡_, refl, sym, ap, _∙_}
-use mathlib.Core.Logic.{_≢_, _⊎_, inl, inr}
-use mathlib.Core.Bool.{Bool, true, false, cond, _||_}
-use mathlib.Core.List.{List, [], _∷_}
+use mathlib.Core.Logic.{_⊎_, inl, inr}
+use mathlib.Core.Bool.{Bool, true, false, _||_}
 use Prim.Native.Nat.{ℕ, zero, suc, _+_, _*_, _/_, _-_, _≤_, _<_}
 use native.Mathlib.Omega.{arith}
 use native.Mathlib.Decide.{ℕ-discrete, decLt}
 use lib.Dec.{eqb}
 use lib.ListN.{length}
-use borrow.Author.Tests.{eq-eqb, ne-eqb, eqb-true}
+use borrow.Author.Tests.{eq-eqb, eqb-true}
 use Rattle.theory.specs.Mask.{odd}
-use Rattle.theory.specs.Table.{Node, node, Table, at, childOf, step, follow, Ordered, Reachable}
-use Rattle.theory.proofs.Step.{Stands, step-here, step-skip, inner, bottom, stands-child, mark-le}
+use Rattle.theory.specs.Table.{Node, Table, at, childOf, step, follow, Ordered, Reachable}
+use Rattle.theory.proofs.Step.{Stands, step-here, step-skip, bottom, stands-child}
 use Rattle.theory.proofs.Cases.{odd-even, odd-odd, half-even, half-odd}
+use Rattle.theory.proofs.Truths.{or-left, or-right, or-cases}
 use Rattle.reduced.specs.Reduced.{leads, reachable}
-
-pub or-left : (a b : Bool) → a ≡ true → a || b ≡ true
-or-left a b e = rw e
-
-pub or-right : (a b : Bool) → b ≡ true → a || b ≡ true
-or-right true b e = refl
-or-right false b e = e
-
-pub or-cases : (a b : Bool) → a || b ≡ true → (a ≡ true) ⊎ (b ≡ true)
-or-cases true b e = inl refl
-or-cases false b e = inr e
 
 module _ (s : Table) where
   -- the links of a node lead on

@@ -1,19 +1,20 @@
 -- The tests of a reduced table: a table is reduced exactly if it is ordered and each node passes; and the marks of the reachable nodes.
 use mathlib.Core.Path.{_≡_, refl, sym, ap, subst, _∙_}
 use mathlib.Core.Logic.{_≢_, _⊎_, inl, inr}
-use mathlib.Core.Bool.{Bool, true, false, cond, not, _&&_, _||_}
-use mathlib.Core.List.{List, [], _∷_}
-use Prim.Native.Nat.{ℕ, zero, suc, _+_, _*_, _-_, _≤_, _<_}
+use mathlib.Core.Bool.{Bool, true, false, not, _&&_}
+use mathlib.Core.List.{List}
+use Prim.Native.Nat.{ℕ, zero, suc, _-_, _≤_, _<_}
 use native.Mathlib.Omega.{arith}
 use native.Mathlib.Decide.{ℕ-discrete, decLt}
-use lib.Dec.{eqb, ltb, leb}
+use lib.Dec.{eqb, leb}
 use lib.ListN.{length, getD, set, replicate, length-set, length-replicate}
 use lib.Seq.{getD-set-same, getD-set-other}
-use borrow.Author.Tests.{eq-eqb, ne-eqb, eqb-true, eqb-false, lt-ltb, le-ltb, le-leb, leb-true, not-true, not-false}
-use Rattle.theory.specs.Table.{Node, node, Table, at, childOf, same, num, Ordered, Reachable, Reduced}
+use borrow.Author.Tests.{eq-eqb, ne-eqb, eqb-false, lt-ltb, le-ltb, le-leb, leb-true, not-true}
+use Rattle.theory.specs.Table.{Node, node, Table, at, childOf, same, num, Ordered, Reduced}
 use Rattle.theory.specs.Words.{nodeAt, nodes}
-use Rattle.theory.proofs.Find.{and-true, same-refl, same-eq}
-use Rattle.theory.proofs.Words.{length-nodes, at-nodes}
+use Rattle.theory.proofs.Find.{same-refl, same-eq}
+use Rattle.theory.proofs.Words.{length-nodes, at-nodes, child-falls}
+use Rattle.theory.proofs.Truths.{clash, bool-cases, and-true, or-left, or-right, or-cases}
 use Rattle.refusal.specs.Limits.{maxMarks, maxNodes}
 use Rattle.refusal.proofs.Firsts.{first-before, first-none}
 use Rattle.table.specs.Inspection.{SoundTable}
@@ -22,14 +23,7 @@ use Rattle.pool.specs.declared.Found.{Found}
 use Rattle.pool.specs.declared.Found.the-variants.{At, Nowhere}
 use Rattle.table.specs.declared.BddPointer.{BddPointer}
 use Rattle.reduced.specs.Reduced.{reachable, repeated, nodeReduced, firstUnreduced, linksMarked, Marked}
-use Rattle.reduced.proofs.ReachLaws.{or-left, or-right, or-cases, spreads, constant-child, reachable-root, reachable-child, constant-mark, of-reachable, to-reachable}
-
-bool-cases : (b : Bool) → (b ≡ true) ⊎ (b ≡ false)
-bool-cases true = inl refl
-bool-cases false = inr refl
-
-pub clash : (b : Bool) → b ≡ true → b ≡ false → ⊥
-clash b p q = let z : _≡_ {A = ℕ} 0 1 = ap (λ v. cond v 0 1) (sym p ∙ q) in omega arith
+use Rattle.reduced.proofs.ReachLaws.{spreads, constant-child, reachable-root, reachable-child, constant-mark, of-reachable, to-reachable}
 
 module _ (s : Table) (x : Node) where
   pub repeated-at : (k j : ℕ) → 2 ≤ j → j < k → at s j ≡ x → repeated s x k ≡ true
@@ -49,7 +43,7 @@ module _ (s : Table) (x : Node) where
 
   pub repeated-where : (k : ℕ) → repeated s x k ≡ true → Earlier k
   unfolding repeated
-  repeated-where zero e = absurd (clash _ e refl)
+  repeated-where zero e = absurd (clash e refl)
   repeated-where (suc k) e = elim (or-cases (leb 2 k && same (at s k) x) (repeated s x k) e) [
     | inl a ↦
         let b : (leb 2 k ≡ true) × (same (at s k) x ≡ true) = and-true (leb 2 k) (same (at s k) x) a in
@@ -102,7 +96,7 @@ module _ (n : ℕ) (s : Table) where
   reduced-of o ok = record {
     ordered = o;
     apart = λ i h k. passed i h (ok i k) .apart;
-    once = λ i j two h k e. clash _ (repeated-at s (at s i) i j two h (sym e)) (passed i (omega arith) (ok i k) .once);
+    once = λ i j two h k e. clash (repeated-at s (at s i) i j two h (sym e)) (passed i (omega arith) (ok i k) .once);
     reachable = λ i h k. of-reachable n s o i (passed i h (ok i k) .reached);
   }
 
@@ -152,9 +146,6 @@ module _ (n count : ℕ) (w : List ℕ) (root : ℕ) (t : SoundTable n count w r
   pub at-word : (p : ℕ) → p < count → at s p ≡ nodeAt w p
   at-word p h = at-nodes count w p h
 
-  pub link-below : (p : ℕ) (b : Bool) → 2 ≤ p → p < count → childOf b (nodeAt w p) < p
-  link-below p b two h = rw (at-word p h) at (t .ordered .links p b two (omega (arith, length-nodes count w)))
-
   -- a reachable node below j marked
   marks-more : (j k : ℕ) (marks : List ℕ) → k < j → k < count → reachable n s k ≡ true → Marking n count w j marks → Marking n count w j (set marks k 1)
   marks-more j k marks h l r m =
@@ -186,8 +177,8 @@ module _ (n count : ℕ) (w : List ℕ) (root : ℕ) (t : SoundTable n count w r
   marking-step p marks two h m = elim (m .plain p) [
     | inl e ↦ rw (eq-eqb (getD marks p 0) 0 e) (closed-more p marks m (λ b d. absurd (let z : ⊥ = omega arith in z)))
     | inr e ↦
-        let low : (nodeAt w p) .low < p = link-below p false two h in
-        let high : (nodeAt w p) .high < p = link-below p true two h in
+        let low : (nodeAt w p) .low < p = child-falls n count w (t .ordered) p false two h in
+        let high : (nodeAt w p) .high < p = child-falls n count w (t .ordered) p true two h in
         let r : reachable n s p ≡ true = m .only p h e in
         let inside : p < length s = omega (arith, length-nodes count w) in
         let rl : reachable n s ((nodeAt w p) .low) ≡ true = rw (at-word p h) at (reachable-child n s (t .ordered) p false two inside r) in
@@ -241,7 +232,7 @@ module _ (n count : ℕ) (w : List ℕ) (root : ℕ) (t : SoundTable n count w r
       on : (q : ℕ) (b : Bool) → Good q → Good (childOf b (at s q))
       on q b (l, e) = elim (decLt q 2) [
         | yes c ↦ rw (constant-child n s (t .ordered) q b c (omega (arith, length-nodes count w))) (l, e)
-        | no c ↦ rw (at-word q l) (omega (arith, link-below q b (omega arith) l), m .closed q b (omega arith) (omega arith) l e)
+        | no c ↦ rw (at-word q l) (omega (arith, child-falls n count w (t .ordered) q b (omega arith) l), m .closed q b (omega arith) (omega arith) l e)
       ]
 
       right : (i : ℕ) → i < count → getD marks i 0 ≡ num (reachable n s i)
@@ -274,7 +265,7 @@ module _ (n count : ℕ) (w : List ℕ) (root : ℕ) (t : SoundTable n count w r
     miss-repeats : Miss w p v l h → false ≡ repeated s (nodeAt w p) p
     miss-repeats m = sym (repeated-none s (nodeAt w p) p (λ j c d e.
         let is : nodeAt w j ≡ nodeAt w p = sym (at-word j (omega arith)) ∙ e in
-        m j (omega (arith, is-l, ap (λ (x : Node). x .low) is, link-below j false c (omega arith))) (omega (arith, is-h, ap (λ (x : Node). x .high) is, link-below j true c (omega arith))) d (is ∙ sym triple)))
+        m j (omega (arith, is-l, ap (λ (x : Node). x .low) is, child-falls n count w (t .ordered) j false c (omega arith))) (omega (arith, is-h, ap (λ (x : Node). x .high) is, child-falls n count w (t .ordered) j true c (omega arith))) d (is ∙ sym triple)))
 
     pub found-repeats : (r : Found) → Searched w p v l h r → (q : BddPointer) → r ≡ At q → true ≡ repeated s (nodeAt w p) p
     found-repeats r a q e = hit-repeats (q .0) (subst (λ z. Searched w p v l h z) e a)

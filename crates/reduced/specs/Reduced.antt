@@ -1,11 +1,11 @@
 -- Reduced tables, node by node, and what a walk's start finds wrong.
 use mathlib.Core.Path.{_≡_}
 use mathlib.Core.Bool.{Bool, true, false, cond, not, _&&_, _||_}
-use mathlib.Core.List.{List, [], _∷_}
+use mathlib.Core.List.{List, _∷_}
 use Prim.Native.Nat.{ℕ, zero, suc, _-_, _≤_, _<_}
 use lib.Dec.{eqb, ltb, leb}
 use lib.ListN.{length, getD, set}
-use Rattle.theory.specs.Table.{Node, node, Table, at, same, num}
+use Rattle.theory.specs.Table.{Node, Table, at, same, num}
 use Rattle.theory.specs.Words.{nodeAt, nodes}
 use Rattle.refusal.specs.Number.{REDUCED}
 use Rattle.refusal.specs.First.{firstFailing}

@@ -9,10 +9,14 @@ use native.Mathlib.Decide.{ℕ-discrete}
 use lib.Dec.{eqb}
 use borrow.Author.Tests.{eq-eqb, ne-eqb, eqb-true}
 use Rattle.refusal.specs.Number.{order}
-use Rattle.refusal.specs.Buffers.{zeroing}
+use Rattle.refusal.specs.Buffers.{zeroing, bufferAfter, workAfter}
 use Rattle.refusal.specs.Verdict.{Verdict, refused, answered, Finding, firstOf, tried, judged, Reply, replied, refusedWith, gives, refusalReply}
 use Rattle.refusal.specs.declared.Refusal.{Refusal}
 use Rattle.refusal.proofs.Single.{no-values}
+
+-- a refusal is no answer
+pub not-answered : (k p : ℕ) (vs : List ℕ) (outs : List (List ℕ)) → refused k p ≡ answered vs outs → ⊥
+not-answered k p vs outs e = let z : _≡_ {A = ℕ} 0 1 = cc in omega arith
 
 -- what findings do to every answer: they refuse with one number and place, or leave it
 data Fate (f : Verdict → Verdict) : Type 0 where
@@ -81,7 +85,7 @@ judged-answers fs v r e h x a = a ∙ ap replied (sym (judged-goes fs v r e h))
 -- a call that answers was not refused: it answers what it would without the findings, and so does every call with the same findings
 pub judged-answer : (fs : List Finding) (v : Verdict) (vs : List ℕ) (outs : List (List ℕ)) → judged fs v ≡ answered vs outs → (u : Verdict) → judged fs u ≡ u
 judged-answer fs v vs outs e = elim (judged-fate fs) [
-  | stopped k p d s ↦ let z : _≡_ {A = ℕ} 0 1 = cc (s v) in absurd (omega arith)
+  | stopped k p d s ↦ absurd (not-answered k p vs outs (sym (s v) ∙ e))
   | left s ↦ s
 ]
 
@@ -118,6 +122,11 @@ unfolding replied
 passes true k p a more v e = no-values (record { number = k; place = p }) a more (sym e)
 passes false k p a more v e = (refl, e)
 
+-- refused with a number that zeroes nothing, a call leaves its work as it was
+pub work-untouched : (r : Refusal) (v : Verdict) (work : List ℕ) → v ≡ refused (r .number) (r .place) → zeroing (r .number) ≡ false → (refusalReply r ≡ replied v) × (work ≡ workAfter v work)
+unfolding replied bufferAfter
+work-untouched r v work is quiet = rw is (refl, rw quiet)
+
 -- no finding has a number that zeroes buffers: those of an admission
 unfoldable pub Quiet : List Finding → Type 0
 Quiet [] = Unit {0}
@@ -146,7 +155,7 @@ module _ (vs : List ℕ) (outs : List (List ℕ)) (k p : ℕ) where
 
   tried-calm : (ks : List ℕ) (fs : List Finding) → Quiet fs → Calm (tried ks fs (answered vs outs))
   unfolding tried
-  tried-calm [] fs q = λ e. absurd (let z : _≡_ {A = ℕ} 0 1 = cc in omega arith)
+  tried-calm [] fs q = λ e. absurd (not-answered k p vs outs (sym e))
   tried-calm (m ∷ ks) fs q = first-calm m fs q (tried ks fs (answered vs outs)) (tried-calm ks fs q)
 
   -- an admission refuses only with numbers that touch nothing

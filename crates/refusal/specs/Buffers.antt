@@ -1,7 +1,7 @@
 -- What becomes of the lent buffers, for every entry.
 use mathlib.Core.Bool.{Bool, cond, _||_}
 use mathlib.Core.List.{List, [], _++_}
-use Prim.Native.Nat.{ℕ, zero, _-_}
+use Prim.Native.Nat.{ℕ, _-_}
 use lib.Dec.{eqb}
 use lib.ListN.{length, replicate, getD}
 use Rattle.refusal.specs.Number.{NODES, CLAUSES}

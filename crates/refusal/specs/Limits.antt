@@ -24,3 +24,7 @@ maxClauses = 1024
 -- the u32 words of work that an entry needs, for W the larger of room and any input node count
 abbrev pub plainWork : ℕ → ℕ
 plainWork W = 12 * W + 192
+
+-- and that the short list needs
+abbrev pub deepWork : ℕ → ℕ → ℕ
+deepWork W n = 24 * W * (n + 2) + 192

@@ -1,15 +1,14 @@
 -- Any depth above the number of marks is enough, so that a run is one thing at whatever depth it is asked.
-use mathlib.Core.Path.{_≡_, refl, sym, ap, _∙_}
+use mathlib.Core.Path.{_≡_}
 use mathlib.Core.Logic.{inl, inr}
-use mathlib.Core.Bool.{true, false, cond}
-use mathlib.Core.List.{List, [], _++_}
-use Prim.Native.Nat.{ℕ, zero, suc, _+_, _<_}
+use mathlib.Core.Bool.{true, false}
+use Prim.Native.Nat.{ℕ, zero, suc, _<_}
 use native.Mathlib.Omega.{arith}
 use Rattle.theory.specs.Tree.{Tree, Deep, cofactor, konst, sameTree}
 use Rattle.theory.specs.Clause.{Clause, setCell}
 use Rattle.theory.proofs.Cases.{cofactor-deep}
+use Rattle.theory.proofs.Truths.{bool-cases}
 use Rattle.rule.specs.Rule.{coreOf, restOf, markOf, solved, called}
-use Rattle.rule.proofs.Truths.{bool-cases}
 use Rattle.rule.proofs.Needs.{need}
 use Rattle.rule.proofs.Parts.{Step, step, core-less, side-less}
 

@@ -1,21 +1,22 @@
 -- The clauses that the rule lists hold exactly where the function says yes.
-use mathlib.Core.Path.{_≡_, refl, sym, ap, ap₂, _∙_}
+use mathlib.Core.Path.{_≡_, refl, sym, ap, _∙_}
 use mathlib.Core.Logic.{inl, inr}
-use mathlib.Core.Bool.{Bool, true, false, cond, not, _||_, _&&_, Bool·beq}
-use mathlib.Core.List.{List, [], _∷_, _++_}
-use Prim.Native.Nat.{ℕ, zero, suc, _+_, _≤_, _<_}
+use mathlib.Core.Bool.{Bool, true, false, cond, _||_, _&&_, Bool·beq}
+use mathlib.Core.List.{[]}
+use Prim.Native.Nat.{ℕ, zero, suc, _+_, _<_}
 use native.Mathlib.Omega.{arith}
 use native.Mathlib.Decide.{ℕ-discrete}
-use Rattle.theory.specs.Mask.{bit, setBit}
-use Rattle.theory.specs.Tree.{Tree, Deep, look, konst, pointwise, cofactor, Free, sameTree, dependsOn}
+use Rattle.theory.specs.Mask.{bit}
+use Rattle.theory.specs.Tree.{Tree, Deep, look, konst, cofactor, Free, sameTree, dependsOn}
 use Rattle.theory.specs.Clause.{Clause, emptyClause, setCell}
 use Rattle.theory.proofs.Masks.{bit-zero}
-use Rattle.theory.proofs.Cases.{cofactor-deep, pointwise-look}
+use Rattle.theory.proofs.Cases.{cofactor-deep, pointwise-look, konst-look}
 use Rattle.theory.proofs.Support.{free-of, of-free, same-equal, same-refl}
+use Rattle.theory.proofs.Truths.{clash, bool-cases}
 use Rattle.cube.specs.Cube.{allHold, dnf}
 use Rattle.rule.specs.Rule.{coreOf, hasCore, restOf, markOf, solved}
-use Rattle.rule.proofs.Truths.{clash, bool-cases, bit-other, set-holds, empty-holds, dnf-append}
-use Rattle.rule.proofs.Setting.{look-own, look-konst, free-own, free-set}
+use Rattle.rule.proofs.Truths.{bit-other, set-holds, empty-holds, dnf-append}
+use Rattle.rule.proofs.Setting.{look-own, free-own, free-set}
 use Rattle.rule.proofs.Needs.{need, need-le}
 use Rattle.rule.proofs.Parts.{Step, step, core-none, core-less, side-less}
 
@@ -78,9 +79,9 @@ unfolding solved dnf
 solved-means zero n f y d h p c = absurd (omega arith)
 solved-means (suc u) n f y d h p c =
     elim (bool-cases (sameTree f (konst n false))) [
-      | inl e ↦ rw (e, same-equal f (konst n false) e, look-konst n false c) (elim (allHold n y c) as (λ v. false ≡ v && false) [ true ↦ refl | false ↦ refl ])
+      | inl e ↦ rw (e, same-equal f (konst n false) e, konst-look n false c) (elim (allHold n y c) as (λ v. false ≡ v && false) [ true ↦ refl | false ↦ refl ])
       | inr e ↦ elim (bool-cases (sameTree f (konst n true))) [
-        | inl e′ ↦ rw (e, e′, same-equal f (konst n true) e′, look-konst n true c) (elim (allHold n y c) as (λ v. v || false ≡ v && true) [ true ↦ refl | false ↦ refl ])
+        | inl e′ ↦ rw (e, e′, same-equal f (konst n true) e′, konst-look n true c) (elim (allHold n y c) as (λ v. v || false ≡ v && true) [ true ↦ refl | false ↦ refl ])
         | inr e′ ↦
             let s : Step n f = step n f d e e′ in
             let x : ℕ = markOf n f in

@@ -1,18 +1,18 @@
 -- How many marks a function depends on: it falls at each step of the rule.
-use mathlib.Core.Path.{_≡_, refl, sym, ap, ap₂, _∙_}
+use mathlib.Core.Path.{_≡_, refl, sym, ap, _∙_}
 use mathlib.Core.Logic.{_≢_, _⊎_, inl, inr, ⊎-elim}
-use mathlib.Core.Bool.{Bool, true, false, cond, not, _||_, _&&_}
+use mathlib.Core.Bool.{Bool, true, false, cond}
 use mathlib.Core.List.{List, [], _∷_, _++_}
 use Prim.Native.Nat.{ℕ, zero, suc, _+_, _≤_, _<_}
 use native.Mathlib.Omega.{arith}
-use native.Mathlib.Decide.{ℕ-discrete, decLt}
+use native.Mathlib.Decide.{ℕ-discrete}
 use lib.ListN.{length, length-append}
 use Rattle.theory.specs.Mask.{bit}
 use Rattle.theory.specs.Tree.{Tree, Deep, konst, tally, Free, dependsOn, supportOf}
 use Rattle.theory.specs.Clause.{marksOf}
 use Rattle.theory.proofs.Support.{free-of, of-free, support-bit}
+use Rattle.theory.proofs.Truths.{bool-cases}
 use Rattle.rule.specs.Rule.{supportMarks}
-use Rattle.rule.proofs.Truths.{clash, bool-cases}
 use Rattle.rule.proofs.Setting.{free-all}
 
 -- every entry of a list

@@ -3,21 +3,20 @@ use mathlib.Core.Path.{_≡_, refl, sym, ap, ap₂, _∙_}
 use mathlib.Core.Logic.{_≢_}
 use mathlib.Core.Bool.{Bool, true, false, cond, not, _||_, _&&_}
 use mathlib.Core.List.{List, [], _∷_}
-use Prim.Native.Nat.{ℕ, zero, suc, _+_, _≤_, _<_}
+use Prim.Native.Nat.{ℕ, zero, suc, _≤_, _<_}
 use native.Mathlib.Omega.{arith}
 use native.Mathlib.Decide.{decLt}
 use lib.Dec.{ltb}
-use borrow.Author.Tests.{lt-ltb, le-ltb}
+use borrow.Author.Tests.{lt-ltb}
 use Rattle.theory.specs.Mask.{bit, setBit}
-use Rattle.theory.specs.Tree.{Tree, leaf, fork, Deep, look, konst, pointwise, cofactor, existsMark, forAllMark, Free, sameTree, dependsOn, caseCount}
-use Rattle.theory.proofs.Find.{and-true}
-use Rattle.theory.proofs.Cases.{look-ext, pointwise-deep, pointwise-look}
+use Rattle.theory.specs.Tree.{Tree, leaf, fork, Deep, look, konst, pointwise, cofactor, existsMark, forAllMark, Free, sameTree, caseCount, andNot}
+use Rattle.theory.proofs.Cases.{look-ext, pointwise-deep, pointwise-look, konst-deep, konst-look}
 use Rattle.theory.proofs.Reach.{for-all-look}
 use Rattle.theory.proofs.Support.{same-equal, same-refl}
-use Rattle.cube.proofs.Runs.{konst-deep}
-use Rattle.rule.specs.Rule.{supportMarks, moreCases, larger, mostCases, coreOf, hasCore, andNot, remainder, dropped, dropMarks, restOf, fewerNodes, smaller, fewestNodes, chosen, markOf}
-use Rattle.rule.proofs.Truths.{clash, either}
-use Rattle.rule.proofs.Setting.{set-own, look-konst, free-pointwise, free-konst, free-own, free-set, folded-deep, folded-own, folded-free}
+use Rattle.theory.proofs.Truths.{clash, and-true}
+use Rattle.rule.specs.Rule.{supportMarks, moreCases, larger, mostCases, coreOf, hasCore, remainder, dropped, dropMarks, restOf, fewerNodes, smaller, fewestNodes, chosen, markOf}
+use Rattle.rule.proofs.Truths.{either}
+use Rattle.rule.proofs.Setting.{set-own, free-pointwise, free-konst, free-own, free-set, folded-deep, folded-own, folded-free}
 use Rattle.rule.proofs.Needs.{All, Dep, support-all, support-some, need, need-lt}
 
 -- ---- the core
@@ -31,7 +30,7 @@ core-konst : (n : ℕ) (f : Tree) (x : ℕ) → Dep n f x → Core n f (konst n 
 core-konst n f x d = record {
   deep = konst-deep n false;
   frees = λ i a. free-konst i n false;
-  under = λ c e. absurd (clash e (look-konst n false c));
+  under = λ c e. absurd (clash e (konst-look n false c));
   less = need-lt n f (konst n false) (λ i a. free-konst i n false) x d (free-konst x n false);
 }
 
@@ -119,7 +118,7 @@ rest-drop n f core (x ∷ xs) r h = rest-drop n f core xs _ (rest-dropped n f co
 or-konst : (n : ℕ) (f : Tree) → Deep n f → pointwise _||_ f (konst n false) ≡ f
 or-konst n f d =
     look-ext n _ f (pointwise-deep _||_ n f _ d (konst-deep n false)) d
-    (λ c k. pointwise-look _||_ n f (konst n false) d (konst-deep n false) c ∙ ap (λ v. look f c || v) (look-konst n false c) ∙ or-none (look f c))
+    (λ c k. pointwise-look _||_ n f (konst n false) d (konst-deep n false) c ∙ ap (λ v. look f c || v) (konst-look n false c) ∙ or-none (look f c))
   where
     or-none : (v : Bool) → v || false ≡ v
     or-none true = refl

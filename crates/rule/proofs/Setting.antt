@@ -1,13 +1,13 @@
 -- A function with a mark set: its cases, and the marks that it still depends on.
 use mathlib.Core.Path.{_≡_, refl, sym, ap, ap₂, _∙_}
 use mathlib.Core.Logic.{_≢_, _⊎_, inl, inr, ⊎-elim}
-use mathlib.Core.Bool.{Bool, true, false, cond, _||_, _&&_}
-use Prim.Native.Nat.{ℕ, zero, suc, _+_, _*_, _/_, _%_, _<_}
+use mathlib.Core.Bool.{Bool, true, false}
+use Prim.Native.Nat.{ℕ, zero, suc, _/_, _%_, _<_}
 use native.Mathlib.Omega.{arith}
 use native.Mathlib.Decide.{ℕ-discrete}
 use borrow.Author.Tests.{eqb-true, eqb-false}
-use Rattle.theory.specs.Mask.{odd, bit, setBit}
-use Rattle.theory.specs.Tree.{Tree, leaf, fork, Deep, look, konst, pointwise, cofactor, existsMark, forAllMark, Free}
+use Rattle.theory.specs.Mask.{bit, setBit}
+use Rattle.theory.specs.Tree.{Tree, leaf, fork, Deep, look, konst, pointwise, cofactor, Free}
 use Rattle.theory.proofs.Cases.{cofactor-deep, cofactor-look, pointwise-deep}
 
 -- the bit that is set is what was there
@@ -19,11 +19,6 @@ set-own (suc i) b c e = omega (arith, set-own i b (c / 2) e)
 
 pub look-own : (i : ℕ) (b : Bool) (t : Tree) (c : ℕ) → bit i c ≡ b → look (cofactor i b t) c ≡ look t c
 look-own i b t c e = cofactor-look i b t c ∙ ap (look t) (set-own i b c e)
-
-pub look-konst : (k : ℕ) (b : Bool) (c : ℕ) → look (konst k b) c ≡ b
-unfolding look konst
-look-konst zero b c = refl
-look-konst (suc k) b c = elim (odd c) as (λ v. cond v (look (konst k b) (c / 2)) (look (konst k b) (c / 2)) ≡ b) [ true ↦ look-konst k b (c / 2) | false ↦ look-konst k b (c / 2) ]
 
 -- a mark set in two functions joined, another mark set, the same mark set
 set-pointwise : (i : ℕ) (b : Bool) (f : Bool → Bool → Bool) (k : ℕ) (t u : Tree) → Deep k t → Deep k u → cofactor i b (pointwise f t u) ≡ pointwise f (cofactor i b t) (cofactor i b u)

@@ -2,7 +2,7 @@
 use mathlib.Core.Path.{_≡_, refl, sym, ap, ap₂, _∙_}
 use mathlib.Core.Logic.{_≢_}
 use mathlib.Core.Bool.{Bool, true, false, cond}
-use mathlib.Core.List.{List, [], _∷_, map}
+use mathlib.Core.List.{[], _∷_, map}
 use Prim.Native.Nat.{ℕ, zero, suc, _+_, _-_, _≤_, _<_}
 use native.Mathlib.Omega.{arith}
 use native.Mathlib.Decide.{ℕ-discrete, decLt}
@@ -13,12 +13,10 @@ use Rattle.theory.specs.Tree.{Tree, leaf, fork, Deep, konst, cofactor, sameTree
 use Rattle.theory.specs.Table.{Node, node, Table, at, childOf, step, treeOf, truth, walk, constants, cut, canon, meaning, Ordered}
 use Rattle.theory.proofs.Step.{Stands, step-here, step-skip, inner, stands-step, treeOf-konst}
 use Rattle.theory.proofs.Canon.{constants-good, canon-means, canon-ordered}
-use Rattle.theory.proofs.Cases.{cofactor-deep}
 use Rattle.theory.proofs.Again.{walk-konst, room-canon, turn, treeSet, treeSet-cofactor}
 use Rattle.theory.proofs.Small.{treeOf-deep}
 use Rattle.theory.proofs.Support.{same-equal, same-refl}
 use Rattle.cube.proofs.Sizes.{adds}
-use Rattle.rule.proofs.Truths.{clash}
 
 -- ---- the constants
 pub size-konst : (n : ℕ) (b : Bool) → length (canon n (konst n b)) ≡ cond b 2 1

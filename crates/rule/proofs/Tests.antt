@@ -1,20 +1,19 @@
 -- The rule's tests as inclusions, and the trimming: the short list says yes exactly where the function does.
-use mathlib.Core.Path.{_≡_, refl, sym, ap, ap₂, _∙_}
+use mathlib.Core.Path.{_≡_, refl, sym, ap, _∙_}
 use mathlib.Core.Logic.{_⊎_, inl, inr, _↔_}
-use mathlib.Core.Bool.{Bool, true, false, cond, not, _||_, _&&_}
+use mathlib.Core.Bool.{Bool, true, false, cond, not, _||_}
 use mathlib.Core.List.{List, [], _∷_, map}
-use Prim.Native.Nat.{ℕ, zero, suc, _+_, _*_, _/_, _<_}
-use native.Mathlib.Omega.{arith}
+use Prim.Native.Nat.{ℕ, zero, suc, _+_, _*_, _/_}
 use Rattle.theory.specs.Mask.{odd, bit, setBit}
-use Rattle.theory.specs.Tree.{Tree, leaf, fork, Deep, look, pointwise, cofactor, existsMark, sameTree}
+use Rattle.theory.specs.Tree.{Tree, leaf, fork, Deep, look, pointwise, existsMark, sameTree}
 use Rattle.theory.specs.Clause.{Clause, emptyClause}
-use Rattle.theory.proofs.Find.{and-true}
 use Rattle.theory.proofs.Cases.{pointwise-deep, pointwise-look, cofactor-deep, cofactor-look, look-ext, look-even, look-odd}
 use Rattle.theory.proofs.Reach.{exists-look}
 use Rattle.theory.proofs.Support.{same-equal, same-refl}
-use Rattle.cube.specs.Cube.{allHold, dnf}
+use Rattle.theory.proofs.Truths.{clash, bool-cases, bool-iff, and-true, and-intro, or-left, or-right, or-cases}
+use Rattle.cube.specs.Cube.{dnf}
 use Rattle.rule.specs.Rule.{supportMarks, dropped, inside, spare, cleared, trimmedBy, trimmed, solved, shortList}
-use Rattle.rule.proofs.Truths.{clash, bool-cases, bool-iff, and-intro, or-left, or-right, or-cases, cleared-more, cleared-less, dnf-more, dnf-less}
+use Rattle.rule.proofs.Truths.{cleared-more, cleared-less, dnf-more, dnf-less}
 use Rattle.rule.proofs.Setting.{set-own, folded-deep}
 use Rattle.rule.proofs.Parts.{Core, Rest}
 use Rattle.rule.proofs.Means.{solved-list}

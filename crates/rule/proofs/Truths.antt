@@ -1,61 +1,23 @@
--- Truth values, and the cases in which a clause or a list of clauses holds.
-use mathlib.Core.Path.{_≡_, refl, sym, ap, ap₂, _∙_}
+-- The cases in which a clause or a list of clauses holds.
+use mathlib.Core.Path.{_≡_, refl, sym, ap, _∙_}
 use mathlib.Core.Logic.{_⊎_, inl, inr}
 use mathlib.Core.Bool.{Bool, true, false, cond, not, _||_, _&&_, Bool·beq}
 use mathlib.Core.List.{List, [], _∷_, _++_, map}
-use Prim.Native.Nat.{ℕ, zero, suc, _+_, _<_, _≤_}
+use Prim.Native.Nat.{ℕ, zero, suc, _+_, _<_}
 use native.Mathlib.Omega.{arith}
 use native.Mathlib.Decide.{ℕ-discrete}
-use lib.Dec.{eqb}
 use borrow.Author.Tests.{eq-eqb, ne-eqb}
 use Rattle.theory.specs.Mask.{bit, setBit}
 use Rattle.theory.specs.Clause.{Clause, emptyClause, setCell, unsetCell}
 use Rattle.theory.proofs.Masks.{bit-zero, bit-setBit}
-use Rattle.theory.proofs.Find.{and-true}
+use Rattle.theory.proofs.Truths.{clash, bool-cases, bool-iff, and-true, and-intro, or-left, or-right, or-cases, or-assoc, beq-true, beq-refl}
 use Rattle.cube.specs.Cube.{everyMark, allHold, dnf}
 use Rattle.rule.specs.Rule.{cleared}
-
-pub clash : {b : Bool} → b ≡ true → b ≡ false → ⊥
-clash e d = let z : _≡_ {A = ℕ} 1 0 = ap (λ v. cond v 1 0) (sym e ∙ d) in omega arith
-
-pub bool-cases : (b : Bool) → (b ≡ true) ⊎ (b ≡ false)
-bool-cases true = inl refl
-bool-cases false = inr refl
-
-pub bool-iff : (a b : Bool) → (a ≡ true → b ≡ true) → (b ≡ true → a ≡ true) → a ≡ b
-bool-iff true true f g = refl
-bool-iff true false f g = sym (f refl)
-bool-iff false true f g = g refl
-bool-iff false false f g = refl
 
 -- whichever is taken
 pub either : {A : Type 0} (P : A → Type 0) (v : Bool) (a b : A) → P a → P b → P (cond v a b)
 either P true a b h k = h
 either P false a b h k = k
-
-pub and-intro : (p q : Bool) → p ≡ true → q ≡ true → p && q ≡ true
-and-intro p q e d = rw (e, d)
-
-pub or-left : (a b : Bool) → a ≡ true → a || b ≡ true
-or-left a b e = rw e
-
-pub or-right : (a b : Bool) → b ≡ true → a || b ≡ true
-or-right true b e = refl
-or-right false b e = e
-
-pub or-cases : (a b : Bool) → a || b ≡ true → (a ≡ true) ⊎ (b ≡ true)
-or-cases true b e = inl refl
-or-cases false b e = inr e
-
-pub beq-true : (a b : Bool) → Bool·beq a b ≡ true → a ≡ b
-beq-true true true e = refl
-beq-true true false e = sym e
-beq-true false true e = e
-beq-true false false e = refl
-
-pub beq-refl : (a : Bool) → Bool·beq a a ≡ true
-beq-refl true = refl
-beq-refl false = refl
 
 -- ---- a clause holds exactly where each of its literals does
 every-at : (n : ℕ) (p : ℕ → Bool) → everyMark n p ≡ true → (i : ℕ) → i < n → p i ≡ true
@@ -151,10 +113,6 @@ pub dnf-append : (n : ℕ) (xs ys : List Clause) (c : ℕ) → dnf n (xs ++ ys) 
 unfolding dnf
 dnf-append n [] ys c = refl
 dnf-append n (x ∷ xs) ys c = rw (dnf-append n xs ys c) (or-assoc (allHold n x c) (dnf n xs c) (dnf n ys c))
-  where
-    or-assoc : (a b d : Bool) → a || (b || d) ≡ (a || b) || d
-    or-assoc true b d = refl
-    or-assoc false b d = refl
 
 pub dnf-more : (n c : ℕ) (s : Clause → Clause) → ((y : Clause) → allHold n y c ≡ true → allHold n (s y) c ≡ true) → (ys : List Clause) → dnf n ys c ≡ true → dnf n (map s ys) c ≡ true
 unfolding dnf

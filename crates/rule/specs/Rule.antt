@@ -5,7 +5,7 @@ use Prim.Native.Nat.{ℕ, zero, suc, _+_}
 use lib.Dec.{ltb, leb}
 use lib.ListN.{length}
 use Rattle.theory.specs.Mask.{bit}
-use Rattle.theory.specs.Tree.{Tree, leaf, fork, pointwise, cofactor, existsMark, forAllMark, sameTree, supportOf, caseCount, konst}
+use Rattle.theory.specs.Tree.{Tree, leaf, fork, pointwise, andNot, cofactor, existsMark, forAllMark, sameTree, supportOf, caseCount, konst}
 use Rattle.theory.specs.Table.{canon}
 use Rattle.theory.specs.Clause.{Clause, emptyClause, setCell, unsetCell, marksOf}
 
@@ -32,9 +32,6 @@ hasCore n f = ltb 0 (caseCount (coreOf n f))
 
 -- ---- "2. With a core, solve it first. Remainder = f and not core. For each mark of the core's support, rising, let it drop out of the
 -- remainder by exists if that result or the core still equals f."
-abbrev pub andNot : Bool → Bool → Bool
-andNot a b = a && not b
-
 unfoldable pub remainder : ℕ → Tree → Tree
 remainder n f = pointwise andNot f (coreOf n f)
 

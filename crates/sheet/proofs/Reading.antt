@@ -8,7 +8,7 @@ use native.Mathlib.Omega.{arith}
 use native.Mathlib.Decide.{ℕ-discrete}
 use lib.Dec.{ltb}
 use lib.ListN.{length}
-use borrow.Author.Tests.{le-ltb, ltb-false}
+use borrow.Author.Tests.{le-ltb, ltb-false, not-true}
 use Rattle.theory.specs.Clause.{WellFormed}
 use Rattle.theory.proofs.Clauses.{formed, not-malformed}
 use Rattle.theory.specs.Words.{stride}
@@ -59,13 +59,9 @@ sheet-one (Refused r) (Refused q) e = ap Refused (refusal-single r q e)
 
 -- ---- the clauses of a section
 module _ (n count : ℕ) (words : List ℕ) where
-  not-is : (b : Bool) → not b ≡ true → b ≡ false
-  not-is true e = sym e
-  not-is false e = refl
-
   none-malformed : count ≤ firstBadEntry false n count words → (i : ℕ) → i < count → WellFormed n (clauseAt words i)
   unfolding firstBadEntry badEntry
-  none-malformed le i h = formed n (clauseAt words i) (not-is _ (first-before (λ j. not (badEntry false n words j)) count i (omega arith)))
+  none-malformed le i h = formed n (clauseAt words i) (not-true _ (first-before (λ j. not (badEntry false n words j)) count i (omega arith)))
 
   all-formed : ((i : ℕ) → i < count → WellFormed n (clauseAt words i)) → firstBadEntry false n count words ≡ count
   unfolding firstBadEntry badEntry

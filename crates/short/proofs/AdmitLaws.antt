@@ -1,26 +1,27 @@
 -- The admission of the short list's entry, test by test.
-use mathlib.Core.Path.{_≡_, refl, sym, ap, _∙_}
-use mathlib.Core.Bool.{Bool, true, false}
+use mathlib.Core.Path.{_≡_, refl, sym}
+use mathlib.Core.Bool.{true, false}
 use mathlib.Core.List.{List, [], _∷_}
 use Prim.Native.Nat.{ℕ, _+_, _*_, _-_, _≤_, max}
 use native.Mathlib.Omega.{arith}
 use native.Mathlib.Nat.{mul-le-mul-left}
-use Rattle.refusal.specs.Limits.{maxMarks, maxNodes}
+use Rattle.refusal.specs.Limits.{maxMarks, maxNodes, deepWork}
 use lib.Dec.{ltb}
 use lib.ListN.{length}
 use borrow.Author.Tests.{ltb-false}
 use Rattle.refusal.specs.Number.{order, LIMIT, SHORT}
 use Rattle.refusal.specs.Buffers.{zeroing}
-use Rattle.refusal.specs.Verdict.{Finding, firstOf, tried, judged, replied, refusedWith, gives}
+use Rattle.refusal.specs.Verdict.{firstOf, tried, judged, replied, refusedWith, gives}
 use Rattle.refusal.proofs.Judged.{Clean, Quiet, passes}
 use Rattle.table.specs.declared.BddPointer.{BddPointer}
 use Rattle.table.specs.declared.Inspection.{Inspection}
 use Rattle.table.specs.declared.Inspection.the-variants.{Sound}
-use Rattle.table.specs.Inspection.{inspectionReply, overLimit, tooShort, roots, rootOf, SoundTable}
+use Rattle.table.specs.Inspection.{inspectionReply, overLimit, tooShort, roots, rootOf}
 use Rattle.table.proofs.AdmissionLaws.{admission-clean, sound-table}
 use Rattle.making.specs.Room.{overRoom}
 use Rattle.making.proofs.RoomLaws.{roomy}
-use Rattle.short.specs.Short.{deepWork, shortDeep, shortFindings, Shortening}
+use Rattle.short.specs.Short.{shortDeep, shortFindings, Shortening}
+use Rattle.admission.proofs.Admitted.{clean-answers}
 
 pub deep-is : (widest n : ℕ) (work : List ℕ) → ltb (length work) (24 * widest * (n + 2) + 192) ≡ shortDeep widest n work
 unfolding shortDeep
@@ -28,11 +29,6 @@ deep-is widest n work = refl
 
 pub deep-fits : (widest n : ℕ) → widest ≤ maxNodes → n ≤ maxMarks → 24 * widest * (n + 2) ≤ 6094848
 deep-fits widest n h k = omega (arith, mul-le-mul-left {m = n + 2} {n = 62} (24 * widest) (omega arith))
-
--- admitted, the entry would answer the root
-clean-answers : (fs : List Finding) (count : ℕ) → Clean (judged fs) → gives ((count - 1) ∷ []) ≡ replied (judged fs (rootOf count))
-unfolding replied
-clean-answers fs count clean = sym (ap replied (clean (rootOf count)))
 
 module _ (n count : ℕ) (words : List ℕ) (room : ℕ) (work : List ℕ) where
   pub short-limit : true ≡ overLimit n count → refusedWith LIMIT 0 ≡ replied (judged (shortFindings n count words room work) (rootOf count))

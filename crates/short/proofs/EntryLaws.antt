@@ -1,48 +1,47 @@
 -- The short list's core and its entry: the table reduced into the first frame, and the three equations.
-use mathlib.Core.Path.{_≡_, refl, sym, ap, ap₂, subst, _∙_}
-use mathlib.Core.Logic.{_≢_}
-use mathlib.Core.Bool.{Bool, true, false, cond, not, _&&_}
-use mathlib.Core.List.{List, [], _∷_, _++_}
-use Prim.Native.Nat.{ℕ, zero, suc, _+_, _*_, _-_, _/_, _≤_, _<_, max}
+use mathlib.Core.Path.{_≡_, refl, sym, ap, subst, _∙_}
+use mathlib.Core.Bool.{true, false, cond, not}
+use mathlib.Core.List.{List}
+use Prim.Native.Nat.{ℕ, zero, suc, _+_, _*_, _-_, _≤_, _<_, max}
 use native.Mathlib.Omega.{arith}
 use native.Mathlib.Nat.{mul-le-mul-left, mul-assoc, mul-suc}
-use lib.Dec.{ltb, leb}
-use lib.ListN.{length, take, drop, getD, replicate}
+use lib.Dec.{ltb}
+use lib.ListN.{length, take, getD, replicate}
 use borrow.Author.Tests.{lt-ltb, le-ltb, ltb-true, ltb-false, lt-leb}
-use Rattle.theory.specs.Tree.{Tree, Deep}
+use Rattle.theory.specs.Tree.{Tree}
 use Rattle.theory.specs.Table.{canon, meaning}
 use Rattle.theory.specs.Words.{stride, nodes}
-use Rattle.theory.proofs.Small.{treeOf-deep}
 use Rattle.theory.proofs.Words.{length-nodes}
+use Rattle.theory.proofs.Small.{meaning-deep}
 use Rattle.refusal.specs.Number.{order, NODES, CLAUSES}
-use Rattle.refusal.specs.Limits.{minRoom, maxMarks, maxNodes}
-use Rattle.refusal.specs.Buffers.{padded, zeroing, outputAfter, workAfter}
+use Rattle.refusal.specs.Limits.{maxNodes}
+use Rattle.refusal.specs.Buffers.{padded, zeroing}
 use Rattle.refusal.specs.Verdict.{Verdict, refused, firstOf, tried, judged, replied}
 use Rattle.refusal.specs.declared.Refusal.{Refusal}
 use Rattle.table.specs.declared.BddPointer.{BddPointer}
 use Rattle.table.specs.declared.Inspection.{Inspection}
 use Rattle.table.specs.declared.Inspection.the-variants.{Sound, Refused}
-use Rattle.table.specs.Inspection.{inspectionReply, refusalIn, rootOf, SoundTable}
+use Rattle.table.specs.Inspection.{inspectionReply, refusalIn, rootOf}
 use Rattle.table.proofs.AdmissionLaws.{admission-refused, admission-clean}
 use Rattle.making.specs.declared.Tabled.{Tabled}
 use Rattle.making.specs.declared.Tabled.the-variants as tabled
 use Rattle.carry.specs.Whole.{Placing, CanonLeft}
-use Rattle.rule.specs.Rule.{shortList, called, fits, allFit, shortFits}
+use Rattle.rule.specs.Rule.{shortList, fits, allFit, shortFits}
 use Rattle.frame.specs.declared.Size.{Size}
-use Rattle.frame.specs.Held.{part, Kept, Tab, Held}
-use Rattle.frame.proofs.Views.{part-long, front-less, tab-made}
-use Rattle.harmless.specs.Memory.{block, frameAt, memory, Remembers}
+use Rattle.frame.specs.Held.{part, Kept, Tab}
+use Rattle.frame.proofs.Views.{part-long, tab-made}
+use Rattle.harmless.specs.Memory.{frameAt, Remembers}
 use Rattle.harmless.proofs.SlotLaws.{none-known}
 use Rattle.listing.specs.declared.Listed.{Listed}
 use Rattle.listing.specs.declared.Listed.the-variants as listed
 use Rattle.listing.specs.declared.Written.{Written}
 use Rattle.listing.specs.declared.Written.the-variants.{Count, Over}
-use Rattle.listing.specs.Listed.{listedReply, clauseStride, capacity, Settling, Settles}
-use Rattle.listing.proofs.ListedLaws.{Outcome, settling, lists-refused, lists-settled}
+use Rattle.listing.specs.Listed.{capacity, Settling, Settles}
+use Rattle.listing.proofs.ListedLaws.{settling, lists-refused, lists-settled, Equations, equations}
 use Rattle.trimming.specs.declared.Shortened.{Shortened}
 use Rattle.trimming.specs.declared.Shortened.the-variants as shortened
 use Rattle.trimming.specs.Trimming.{ListReady, Answers, Shortens}
-use Rattle.short.specs.Short.{deepWork, shortFindings, shortOvers, listsShort, Shortening, ListsShort}
+use Rattle.short.specs.Short.{shortFindings, shortOvers, listsShort, Shortening, ListsShort}
 use Rattle.short.proofs.AdmitLaws.{short-quiet, short-admitted}
 
 -- ---- what the findings of the list decide
@@ -135,13 +134,9 @@ module _ (n count : ℕ) (words : List ℕ) (root room : ℕ) (work : List ℕ) 
         pub small : k ≤ room
         small = omega (arith, ltb-false room (length (canon n (meaning n (nodes count words)))) (made .2), ap length (made .1), length-nodes k (part (4 * stride * W * (n + 2)) (4 * stride * W * (n + 2) + stride * W) w₂))
 
-        deep : Deep n (meaning n (nodes count words))
-        unfolding meaning
-        deep = treeOf-deep n (nodes count words) 0 (length (nodes count words) - 1)
-
         tab : Tab n w₂ (frameAt size 0) k (meaning n (nodes count words))
         tab = subst (λ o. Tab n w₂ o k (meaning n (nodes count words))) (sym frame-zero)
-            (tab-made n w₂ (4 * stride * W * (n + 2)) (4 * stride * W * (n + 2) + stride * W) k (meaning n (nodes count words)) deep (omega arith) (omega (arith, first-within))
+            (tab-made n w₂ (4 * stride * W * (n + 2)) (4 * stride * W * (n + 2) + stride * W) k (meaning n (nodes count words)) (meaning-deep n (nodes count words)) (omega arith) (omega (arith, first-within))
             (omega (arith, made .0, part-long (4 * stride * W * (n + 2)) (4 * stride * W * (n + 2) + stride * W) w₂ (omega (arith, first-within)))) (made .1))
 
         pub ask-list : ListReady w₂ size k
@@ -179,12 +174,6 @@ module _ (n count : ℕ) (words : List ℕ) (root room : ℕ) (work : List ℕ) 
               }
 
 -- ---- the entry
-abbrev pub Equations : Verdict → Listed → List ℕ → List ℕ → List ℕ → List ℕ → Type 0
-Equations v r out out′ work work′ = (listedReply r ≡ replied v) × ((out′ ≡ outputAfter 0 v out) × (work′ ≡ workAfter v work))
-
-equations : (v : Verdict) (r : Listed) (out out′ work work′ : List ℕ) → Outcome v r out out′ work work′ → Equations v r out out′ work work′
-equations v r out out′ work work′ o = (o .reply, (o .output, o .memory))
-
 module _ (n count : ℕ) (words : List ℕ) (room : ℕ) (out work : List ℕ) (a : Inspection) (e : inspectionReply a ≡ replied (judged (shortFindings n count words room work) (rootOf count))) where
   pub entry-refused : (r s : Refusal) → a ≡ Refused r → s ≡ refusalIn a → Equations (listsShort n count words room out work) (listed.Refused s) out out work work
   entry-refused r s is-r is-s =

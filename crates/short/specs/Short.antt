@@ -1,12 +1,13 @@
 -- What the short list's entry answers, for any words at all.
 use mathlib.Core.Bool.{Bool, not}
 use mathlib.Core.List.{List, [], _∷_, _++_}
-use Prim.Native.Nat.{ℕ, _+_, _*_, _≤_, max}
+use Prim.Native.Nat.{ℕ, _+_, _≤_, max}
 use lib.Dec.{ltb}
 use lib.ListN.{length}
 use Rattle.theory.specs.Tree.{Tree}
 use Rattle.theory.specs.Table.{meaning}
 use Rattle.theory.specs.Words.{nodes}
+use Rattle.refusal.specs.Limits.{deepWork}
 use Rattle.refusal.specs.Number.{LIMIT, SHORT, NODES}
 use Rattle.refusal.specs.Verdict.{Finding, finding, Verdict}
 use Rattle.table.specs.Inspection.{tableFindings, SoundTable}
@@ -15,10 +16,6 @@ use Rattle.making.proofs.RoomLaws.{Roomy}
 use Rattle.rule.specs.Rule.{shortList, shortFits}
 use Rattle.listing.specs.Listed.{overClauses, lists, Leaves}
 use Rattle.listing.specs.declared.Written.{Written}
-
--- the u32 words of work that the short list needs, for W the larger of room and the input's node count
-abbrev pub deepWork : ℕ → ℕ → ℕ
-deepWork W n = 24 * W * (n + 2) + 192
 
 -- SHORT: work too small
 unfoldable pub shortDeep : ℕ → ℕ → List ℕ → Bool

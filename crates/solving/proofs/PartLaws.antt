@@ -1,15 +1,13 @@
 -- A part loaded into the next frame.
-use mathlib.Core.Path.{_≡_, refl, sym, ap, subst, _∙_}
-use mathlib.Core.Logic.{_≢_, _⊎_, inl, inr}
-use mathlib.Core.Bool.{Bool, true, false}
+use mathlib.Core.Path.{_≡_, refl, ap, subst, _∙_}
+use mathlib.Core.Logic.{_≢_, _⊎_, inr}
 use mathlib.Core.List.{List}
-use Prim.Native.Nat.{ℕ, zero, suc, _+_, _*_, _≤_, _<_}
+use Prim.Native.Nat.{ℕ, zero, suc, _+_, _*_, _≤_}
 use native.Mathlib.Omega.{arith}
 use lib.Dec.{eqb}
-use lib.ListN.{length, take}
-use borrow.Author.Tests.{eq-eqb, ne-eqb}
+use lib.ListN.{length}
+use borrow.Author.Tests.{ne-eqb}
 use Rattle.theory.specs.Tree.{Tree, cofactor}
-use Rattle.theory.specs.Table.{canon}
 use Rattle.theory.specs.Words.{stride}
 use Rattle.theory.specs.Clause.{Clause, setCell}
 use Rattle.rule.specs.Rule.{coreOf, restOf, markOf}
@@ -17,9 +15,9 @@ use Rattle.rule.proofs.Sizes.{restrict-small}
 use Rattle.frame.specs.declared.Size.{Size}
 use Rattle.frame.specs.declared.Made.{Made}
 use Rattle.frame.specs.declared.Made.the-variants.{Count, Over}
-use Rattle.frame.specs.Held.{Tab, Held, Lies, Operand, Gives, Turns, Copies}
+use Rattle.frame.specs.Held.{Tab, Lies, Operand, Gives, Turns, Copies}
 use Rattle.dividing.specs.declared.Parts.{Parts}
-use Rattle.dividing.specs.Dividing.{place, coreAt, restAt}
+use Rattle.dividing.specs.Dividing.{coreAt, restAt}
 use Rattle.dividing.proofs.FitLaws.{operand}
 use Rattle.solving.specs.Solving.{nextAt, partOf, literalsOf, PartsAt, Loading, Loads}
 

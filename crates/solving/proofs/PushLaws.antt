@@ -1,12 +1,12 @@
 -- One clause more in the output.
 use mathlib.Core.Path.{_≡_, refl, sym, ap, _∙_}
 use mathlib.Core.List.{List, [], _∷_, _++_}
-use Prim.Native.Nat.{ℕ, zero, suc, _+_, _*_, _/_, _≤_, _<_, min}
+use Prim.Native.Nat.{ℕ, zero, suc, _+_, _*_, _≤_, _<_}
 use native.Mathlib.Omega.{arith}
 use lib.ListN.{length, take, set, length-set, length-append}
 use Rattle.theory.specs.Clause.{Clause}
 use Rattle.listing.specs.Listed.{clauseWords, capacity}
-use Rattle.solving.specs.Solving.{Out, Pushes}
+use Rattle.solving.specs.Solving.{Pushes}
 
 two-more : (n : ℕ) (l : List ℕ) (a b : ℕ) → n + 2 ≤ length l → take (suc (suc n)) (set (set l n a) (suc n) b) ≡ take n l ++ (a ∷ b ∷ [])
 two-more n [] a b h = absurd (let z : ⊥ = omega arith in z)

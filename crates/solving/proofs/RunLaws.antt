@@ -1,19 +1,19 @@
 -- The run of a function from its three parts.
-use mathlib.Core.Path.{_≡_, refl, sym, ap, ap₂, _∙_}
-use mathlib.Core.Logic.{_⊎_, inl, inr}
-use mathlib.Core.Bool.{Bool, true, false, cond, _&&_}
+use mathlib.Core.Path.{_≡_, refl, sym, ap, _∙_}
+use mathlib.Core.Bool.{true, false, cond, _&&_}
 use mathlib.Core.List.{List, [], _∷_, _++_}
-use Prim.Native.Nat.{ℕ, zero, suc, _+_, _≤_, _<_}
+use Prim.Native.Nat.{ℕ, zero, suc, _+_}
 use native.Mathlib.Omega.{arith}
-use Rattle.theory.specs.Tree.{Tree, Deep, cofactor, konst, sameTree}
+use Rattle.theory.specs.Tree.{Tree, Deep, cofactor, konst}
 use Rattle.theory.specs.Clause.{Clause, setCell}
 use Rattle.theory.proofs.Support.{same-refl}
+use Rattle.theory.proofs.Truths.{and-assoc}
 use Rattle.rule.specs.Rule.{coreOf, hasCore, restOf, markOf, solved, stepCalls, called, allFit}
 use Rattle.rule.proofs.Parts.{core-none}
 use Rattle.rule.proofs.Means.{solved-core}
 use Rattle.dividing.specs.Dividing.{Inner}
 use Rattle.dividing.proofs.FitLaws.{all-append}
-use Rattle.solving.specs.Solving.{partOf, literalsOf, solvedTo, calledTo}
+use Rattle.solving.specs.Solving.{partOf, solvedTo, calledTo}
 
 pub ++-assoc : (xs ys zs : List Clause) → (xs ++ ys) ++ zs ≡ xs ++ (ys ++ zs)
 ++-assoc [] ys zs = refl
@@ -50,13 +50,9 @@ called-parts room u n f i d =
     ∙ ap (λ v. allFit room n (stepCalls n f) && v)
     (all-append room n (called u n (coreOf n f)) _
     ∙ ap (λ v. allFit room n (called u n (coreOf n f)) && v) (all-append room n (called u n (cofactor (markOf n f) true (restOf n f))) (called u n (cofactor (markOf n f) false (restOf n f))))
-    ∙ assoc (allFit room n (called u n (coreOf n f))) (allFit room n (called u n (cofactor (markOf n f) true (restOf n f)))) (allFit room n (called u n (cofactor (markOf n f) false (restOf n f))))
+    ∙ and-assoc (allFit room n (called u n (coreOf n f))) (allFit room n (called u n (cofactor (markOf n f) true (restOf n f)))) (allFit room n (called u n (cofactor (markOf n f) false (restOf n f))))
     ∙ ap (λ v. v && allFit room n (called u n (cofactor (markOf n f) false (restOf n f)))) (sym (all-append room n (called u n (coreOf n f)) (called u n (cofactor (markOf n f) true (restOf n f)))))
     ∙ sym (all-append room n (called u n (coreOf n f) ++ called u n (cofactor (markOf n f) true (restOf n f))) (called u n (cofactor (markOf n f) false (restOf n f))))))
-  where
-    assoc : (a b c : Bool) → a && (b && c) ≡ (a && b) && c
-    assoc true b c = refl
-    assoc false b c = refl
 
 -- one part more
 pub called-next : (room u n : ℕ) (f : Tree) (i : ℕ) → allFit room n (calledTo u n f (suc i)) ≡ allFit room n (calledTo u n f i) && allFit room n (called u n (partOf n f i))

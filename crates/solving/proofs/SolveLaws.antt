@@ -2,16 +2,16 @@
 use mathlib.Core.Path.{_≡_, refl, sym, ap, ap₂, subst, _∙_}
 use mathlib.Core.Logic.{_≢_}
 use mathlib.Core.Bool.{Bool, true, false, _&&_}
-use mathlib.Core.List.{List, [], _∷_, _++_}
-use Prim.Native.Nat.{ℕ, zero, suc, _+_, _*_, _-_, _/_, _≤_, _<_, min}
+use mathlib.Core.List.{List, _++_}
+use Prim.Native.Nat.{ℕ, zero, suc, _+_, _*_, _-_, _≤_, _<_}
 use native.Mathlib.Omega.{arith}
 use native.Mathlib.Nat.{mul-le-mul-left, mul-suc}
 use lib.ListN.{length, take, drop, length-append}
 use lib.Seq.{drop-drop}
-use Rattle.theory.specs.Tree.{Tree, Deep, cofactor, konst, sameTree}
+use Rattle.theory.specs.Tree.{Tree}
 use Rattle.theory.specs.Clause.{Clause}
 use Rattle.theory.specs.Words.{stride}
-use Rattle.rule.specs.Rule.{coreOf, restOf, markOf, solved, stepCalls, called, allFit}
+use Rattle.rule.specs.Rule.{markOf, solved, stepCalls, called, allFit}
 use Rattle.rule.proofs.Needs.{need}
 use Rattle.rule.proofs.Parts.{Step, step, core-less, side-less}
 use Rattle.rule.proofs.Fuel.{called-fuel}
@@ -22,8 +22,8 @@ use Rattle.frame.proofs.Views.{view-kept, part-front, front-less, tab-kept}
 use Rattle.dividing.specs.declared.Parts.{Parts}
 use Rattle.dividing.specs.declared.Divided.{Divided}
 use Rattle.dividing.specs.declared.Divided.the-variants.{Into, TooLarge}
-use Rattle.dividing.specs.Dividing.{place, coreAt, restAt, tryAt, InFrame, Inner, Divides, DivideReady}
-use Rattle.dividing.proofs.FitLaws.{only, lies-at}
+use Rattle.dividing.specs.Dividing.{place, coreAt, restAt, tryAt, Inner, Divides, DivideReady}
+use Rattle.dividing.proofs.FitLaws.{only}
 use Rattle.listing.specs.Listed.{capacity}
 use Rattle.solving.specs.declared.Solved.{Solved}
 use Rattle.solving.specs.declared.Solved.the-variants.{Done, Nodes}

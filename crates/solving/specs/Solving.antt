@@ -1,21 +1,20 @@
 -- The short list's recursion: frames one behind another, clauses in the output, and the functions already found harmless.
 use mathlib.Core.Path.{_≡_}
-use mathlib.Core.Bool.{Bool, true, false}
+use mathlib.Core.Bool.{true, false}
 use mathlib.Core.List.{List, [], _∷_, _++_}
-use Prim.Native.Nat.{ℕ, zero, suc, _+_, _*_, _-_, _/_, _≤_, _<_, min}
-use lib.ListN.{length, take, drop}
+use Prim.Native.Nat.{ℕ, zero, suc, _+_, _*_, _-_, _≤_, _<_, min}
+use lib.ListN.{length, take}
 use Rattle.theory.specs.Tree.{Tree, cofactor}
 use Rattle.theory.specs.Clause.{Clause, setCell}
-use Rattle.theory.specs.Words.{stride}
 use Rattle.refusal.specs.Limits.{minRoom, maxMarks, maxNodes}
-use Rattle.rule.specs.Rule.{coreOf, restOf, markOf, solved, called, stepCalls, allFit}
+use Rattle.rule.specs.Rule.{coreOf, restOf, markOf, solved, called, allFit}
 use Rattle.rule.proofs.Needs.{need}
 use Rattle.frame.specs.declared.Size.{Size}
 use Rattle.frame.specs.Held.{part, Tab, Held, Lies}
 use Rattle.listing.specs.Listed.{clauseStride, clauseWords, capacity}
 use Rattle.dividing.specs.declared.Parts.{Parts}
-use Rattle.dividing.specs.Dividing.{place, coreAt, restAt, Inner}
-use Rattle.harmless.specs.Memory.{block, frameAt, memory, Harmless, Proven, Recalls, Remembers}
+use Rattle.dividing.specs.Dividing.{place, coreAt, restAt}
+use Rattle.harmless.specs.Memory.{frameAt, memory, Remembers}
 use Rattle.solving.specs.declared.Solved.{Solved}
 use Rattle.solving.specs.declared.Solved.the-variants.{Done, Nodes}
 

@@ -1,6 +1,6 @@
 -- Evaluation, test by test and step by step.
 use mathlib.Core.Path.{_≡_, sym, ap, _∙_}
-use mathlib.Core.Bool.{true, false, cond, not, _&&_}
+use mathlib.Core.Bool.{true, false, not, _&&_, true≢false}
 use mathlib.Core.List.{List}
 use Prim.Native.Nat.{ℕ, zero, suc, _+_, _-_, _/_, _^_, _≤_, _<_}
 use native.Mathlib.Omega.{arith}
@@ -13,7 +13,7 @@ use lib.ListN.{length}
 use borrow.Author.Tests.{eq-eqb, ne-eqb, le-leb, lt-leb, leb-true}
 use Rattle.theory.specs.Mask.{bit}
 use Rattle.theory.specs.Tree.{look}
-use Rattle.theory.specs.Table.{Node, node, Table, at, childOf, treeOf, says, meaning, Ordered}
+use Rattle.theory.specs.Table.{Node, Table, at, childOf, treeOf, says, meaning, Ordered}
 use Rattle.theory.specs.Words.{nodeAt, nodes}
 use Rattle.theory.proofs.Masks.{bit-past}
 use Rattle.theory.proofs.Trailing.{tz-below, tz-at, bit-add}
@@ -59,11 +59,8 @@ module _ (n case : ℕ) (over : true ≡ overCase n case) (fits : case < 2 ^ cas
   unfolding z
   lowest-within = elim (decLt (n + z) caseBits) [
     | yes h ↦ h
-    | no h ↦ absurd (clash (sym set-there ∙ bit-past caseBits (n + z) case fits (omega arith)))
+    | no h ↦ absurd (true≢false (sym set-there ∙ bit-past caseBits (n + z) case fits (omega arith)))
   ]
-    where
-      clash : true ≡ false → ⊥
-      clash e = let w : _≡_ {A = ℕ} 1 0 = ap (λ b. cond b 1 0) e in omega arith
 
   unset-below : (j : ℕ) → j < n + z → not (leb n j && bit j case) ≡ true
   unfolding z

@@ -9,7 +9,7 @@ use lib.Dec.{eqb}
 use lib.ListN.{length, length-append}
 use borrow.Author.Tests.{eq-eqb, ne-eqb}
 use Rattle.theory.specs.Tree.{Tree, leaf, fork, Deep, pointwise, cofactor, konst}
-use Rattle.theory.specs.Table.{node, Table, at, step, treeOf, truth, num, walk, constants, canon, cut, Good}
+use Rattle.theory.specs.Table.{Table, at, step, treeOf, truth, num, walk, constants, canon, cut, Good}
 use Rattle.theory.proofs.Step.{step-skip}
 use Rattle.theory.proofs.Find.{mk-same}
 use Rattle.theory.proofs.Walk.{Walked, sound, found}

@@ -12,18 +12,8 @@ use lib.Pow.{pow-pos}
 use borrow.Author.Tests.{eq-eqb, ne-eqb, le-leb, lt-leb}
 use Rattle.theory.specs.Mask.{bit, setBit}
 use Rattle.theory.specs.Clause.{Clause, WellFormed, malformed, cell, emptyClause, setCell, unsetCell, agreeing, extending}
+use Rattle.theory.proofs.Truths.{clash, and-true}
 use Rattle.theory.proofs.Masks.{bit-and, bit-or, bit-zero, bit-ext, bit-setBit, setBit-lt}
-
-clash : {b : Bool} → b ≡ true → b ≡ false → ⊥
-clash p q = let z : _≡_ {A = ℕ} 1 0 = ap (λ t. cond t 1 0) (sym p ∙ q) in omega arith
-
-pub and-left : (a b : Bool) → a && b ≡ true → a ≡ true
-and-left true b e = refl
-and-left false b e = e
-
-pub and-right : (a b : Bool) → a && b ≡ true → b ≡ true
-and-right true b e = e
-and-right false b e = absurd (clash e refl)
 
 -- ---- malformed
 
@@ -189,8 +179,8 @@ pub extending-each : (n : ℕ) (c d : Clause) → extending n c d ≡ true → (
 unfolding extending
 extending-each zero c d e m h = absurd (let z : ⊥ = omega arith in z)
 extending-each (suc n) c d e m h = elim (ℕ-discrete m n) [
-  | yes q ↦ rw q (and-right (extending n c d) (agreeing c d n) e)
-  | no q ↦ extending-each n c d (and-left (extending n c d) (agreeing c d n) e) m (omega arith)
+  | yes q ↦ rw q (and-true (extending n c d) (agreeing c d n) e .1)
+  | no q ↦ extending-each n c d (and-true (extending n c d) (agreeing c d n) e .0) m (omega arith)
 ]
 
 pub extending-all : (n : ℕ) (c d : Clause) → ((m : ℕ) → m < n → agreeing c d m ≡ true) → extending n c d ≡ true

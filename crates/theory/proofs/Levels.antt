@@ -7,7 +7,7 @@ use native.Mathlib.Nat.{add-zero, zero-add, suc-add, div-one, div-div-eq-div-mul
 use lib.Pow.{pow-add}
 use Rattle.theory.specs.Mask.{odd, bit}
 use Rattle.theory.specs.Tree.{Tree, Deep, look, caseCount, lifted}
-use Rattle.theory.specs.Table.{node, Table, at, step, treeOf, truth, says, walk, Good}
+use Rattle.theory.specs.Table.{Table, at, step, treeOf, truth, says, walk, Good}
 use Rattle.theory.proofs.Masks.{bit-shift}
 use Rattle.theory.proofs.Step.{step-here, step-skip}
 use Rattle.theory.proofs.Again.{walk-skip}

@@ -1,3 +1,4 @@
+pub mod Truths
 pub mod Masks
 pub mod Step
 pub mod Find
@@ -17,4 +18,5 @@ pub mod Marks
 pub mod Clauses
 pub mod Gathers
 pub mod Turned
+pub mod Forks
 pub mod Support

@@ -7,10 +7,8 @@ use lib.Dec.{ltb}
 use lib.ListN.{length}
 use borrow.Author.Tests.{lt-ltb, le-ltb, ltb-true}
 use Rattle.theory.specs.Table.{node, Table, at, childOf, same, linkOk, nodeOk, Ordered}
-use Rattle.theory.proofs.Find.{and-true, same-refl, same-eq}
-
-and-both : (a b : Bool) → a ≡ true → b ≡ true → a && b ≡ true
-and-both a b p q = rw (p, q)
+use Rattle.theory.proofs.Truths.{and-true, and-intro}
+use Rattle.theory.proofs.Find.{same-refl, same-eq}
 
 module _ (n : ℕ) (s : Table) where
   ok-constant : (i : ℕ) → i < 2 → nodeOk n s i ≡ same (at s i) (node n i i)
@@ -55,11 +53,11 @@ module _ (n : ℕ) (s : Table) where
 
   link-ok : Ordered n s → (i : ℕ) (b : Bool) → 2 ≤ i → i < length s → linkOk s i (childOf b (at s i)) ≡ true
   unfolding linkOk
-  link-ok o i b two k = and-both _ _ (lt-ltb _ _ (o .links i b two k)) (lt-ltb _ _ (o .falls i b two k))
+  link-ok o i b two k = and-intro _ _ (lt-ltb _ _ (o .links i b two k)) (lt-ltb _ _ (o .falls i b two k))
 
   pub ok-of-ordered : Ordered n s → (i : ℕ) → i < length s → nodeOk n s i ≡ true
   ok-of-ordered o zero k = ok-constant 0 (omega arith) ∙ ap (λ x. same x (node n 0 0)) (o .first) ∙ same-refl (node n 0 0)
   ok-of-ordered o (suc zero) k = ok-constant 1 (omega arith) ∙ ap (λ x. same x (node n 1 1)) (o .second k) ∙ same-refl (node n 1 1)
   ok-of-ordered o (suc (suc j)) k =
       ok-inner (suc (suc j)) (omega arith)
-      ∙ and-both _ _ (and-both _ _ (lt-ltb _ _ (o .marks (suc (suc j)) (omega arith) k)) (link-ok o (suc (suc j)) false (omega arith) k)) (link-ok o (suc (suc j)) true (omega arith) k)
+      ∙ and-intro _ _ (and-intro _ _ (lt-ltb _ _ (o .marks (suc (suc j)) (omega arith) k)) (link-ok o (suc (suc j)) false (omega arith) k)) (link-ok o (suc (suc j)) true (omega arith) k)

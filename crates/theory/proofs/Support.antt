@@ -13,26 +13,17 @@ use Rattle.theory.specs.Mask.{bit, setBit}
 use Rattle.theory.specs.Tree.{Tree, leaf, fork, Deep, look, cofactor, Free, sameTree, dependsOn, supportOf}
 use Rattle.theory.specs.Table.{Table, at, canon, Ordered, marksIn}
 use Rattle.theory.proofs.Masks.{bit-zero, bit-setBit, bit-ext, setBit-lt}
-use Rattle.theory.proofs.Find.{and-true}
+use Rattle.theory.proofs.Truths.{clash, and-true, beq-true}
 use Rattle.theory.proofs.Cases.{look-even, look-odd, cofactor-deep, cofactor-look}
 use Rattle.theory.proofs.Canon.{canon-ordered}
 use Rattle.theory.proofs.Reach.{support}
 
-true-false : {b : Bool} → b ≡ true → b ≡ false → ⊥
-true-false e d = let z : _≡_ {A = ℕ} 1 0 = ap (λ v. cond v 1 0) (sym e ∙ d) in omega arith
-
-beq-eq : (a b : Bool) → Bool·beq a b ≡ true → a ≡ b
-beq-eq true true e = refl
-beq-eq true false e = sym e
-beq-eq false true e = e
-beq-eq false false e = refl
-
 -- the test is equality
 pub same-equal : (t u : Tree) → sameTree t u ≡ true → t ≡ u
 unfolding sameTree
-same-equal (leaf a) (leaf b) e = ap leaf (beq-eq a b e)
-same-equal (leaf a) (fork lo hi) e = absurd (true-false e refl)
-same-equal (fork lo hi) (leaf b) e = absurd (true-false e refl)
+same-equal (leaf a) (leaf b) e = ap leaf (beq-true a b e)
+same-equal (leaf a) (fork lo hi) e = absurd (clash e refl)
+same-equal (fork lo hi) (leaf b) e = absurd (clash e refl)
 same-equal (fork lo hi) (fork lo′ hi′) e =
     let a : (sameTree lo lo′ ≡ true) × (sameTree hi hi′ ≡ true) = and-true _ _ e in
     ap₂ fork (same-equal lo lo′ (a .0)) (same-equal hi hi′ (a .1))
@@ -51,10 +42,10 @@ pub record Apart (k : ℕ) (t u : Tree) : Type 0 where
 
 apart-leaf : (a b : Bool) → Bool·beq a b ≡ false → Apart 0 (leaf a) (leaf b)
 unfolding look
-apart-leaf true true e = absurd (true-false refl e)
-apart-leaf true false e = record { case = 0; small = omega arith; differ = λ d. true-false refl d }
-apart-leaf false true e = record { case = 0; small = omega arith; differ = λ d. true-false refl (sym d) }
-apart-leaf false false e = absurd (true-false refl e)
+apart-leaf true true e = absurd (clash refl e)
+apart-leaf true false e = record { case = 0; small = omega arith; differ = λ d. clash refl d }
+apart-leaf false true e = record { case = 0; small = omega arith; differ = λ d. clash refl (sym d) }
+apart-leaf false false e = absurd (clash refl e)
 
 -- functions that are not the same have one
 pub not-same : (k : ℕ) (t u : Tree) → Deep k t → Deep k u → sameTree t u ≡ false → Apart k t u
@@ -162,7 +153,7 @@ module _ (s : Table) where
     | no d ↦
         let is : cond (eqb i ((at s k) .mark)) true (bit i (marksIn s k)) ≡ false = sym (bit-setBit i _ true _) ∙ ap (bit i) (sym (marks-more k (omega arith))) ∙ e in
         elim (ℕ-discrete i ((at s k) .mark)) [
-          | yes q ↦ absurd (true-false refl (rw (eq-eqb i _ q) at is))
+          | yes q ↦ absurd (clash refl (rw (eq-eqb i _ q) at is))
           | no q ↦ elim (ℕ-discrete j k) [
             | yes z ↦ rw z (λ w. q (sym w))
             | no z ↦ bit-absent i k (rw (ne-eqb i _ q) at is) j a (omega arith)
@@ -184,5 +175,5 @@ marks-support n t d =
     set i h e =
         (elim (bit i (supportOf n t)) as (λ v. bit i (supportOf n t) ≡ v → v ≡ true) [
           | true ↦ λ z. refl
-          | false ↦ λ z. absurd (true-false e (absent-bit (canon n t) i (length (canon n t)) (support n t d i h .1 (support-free n i t h .0 z))))
+          | false ↦ λ z. absurd (clash e (absent-bit (canon n t) i (length (canon n t)) (support n t d i h .1 (support-free n i t h .0 z))))
         ]) refl

@@ -1,25 +1,22 @@
 -- Literals cleared from the clauses in the output, one clause after another.
 use mathlib.Core.Path.{_≡_, refl, sym, ap, ap₂, _∙_}
 use mathlib.Core.Logic.{_≢_}
-use mathlib.Core.Bool.{Bool, true, false, cond, _&&_, Bool·beq}
+use mathlib.Core.Bool.{Bool, true, false, cond, Bool·beq}
 use mathlib.Core.List.{List, [], _∷_, map}
 use Prim.Native.Nat.{ℕ, zero, suc, _+_, _*_, _≤_, _<_}
 use native.Mathlib.Omega.{arith}
 use lib.ListN.{length, take, set, getD, length-set}
 use Rattle.theory.specs.Mask.{bit}
 use Rattle.theory.specs.Clause.{Clause, clause, unsetCell}
+use Rattle.theory.proofs.Truths.{beq-refl}
 use Rattle.rule.specs.Rule.{cleared}
-use Rattle.listing.specs.Listed.{clauseStride, clauseWords}
+use Rattle.listing.specs.Listed.{clauseWords}
 use Rattle.trimming.specs.Trimming.{Says, clearedTo, Clears}
 
 -- ---- one clause
 pub not-fixed : (x : ℕ) (b : Bool) (y : Clause) → bit x (y .fixed) ≡ false → y ≡ cleared x b y
 unfolding cleared
 not-fixed x b y e = rw e
-
-beq-refl : (v b : Bool) → v ≡ b → Bool·beq v b ≡ true
-beq-refl true b e = rw (← e)
-beq-refl false b e = rw (← e)
 
 beq-not : (v b : Bool) → v ≢ b → Bool·beq v b ≡ false
 beq-not true true n = absurd (n refl)
@@ -36,7 +33,7 @@ other-value x b y f v ef t ev n = rw (sym ef ∙ t, beq-not (bit x (y .values)) 
 
 pub is-cleared : (x : ℕ) (b : Bool) (y : Clause) (f v : Bool) → f ≡ bit x (y .fixed) → f ≡ true → v ≡ bit x (y .values) → v ≡ b → unsetCell y x ≡ cleared x b y
 unfolding cleared
-is-cleared x b y f v ef t ev n = rw (sym ef ∙ t, beq-refl (bit x (y .values)) b (sym ev ∙ n))
+is-cleared x b y f v ef t ev n = rw (sym ef ∙ t, ap (Bool·beq (bit x (y .values))) (sym (sym ev ∙ n)) ∙ beq-refl (bit x (y .values)))
 
 -- ---- all of them
 twice : ℕ → ℕ

@@ -1,10 +1,10 @@
 -- The whole short list: solved from the first frame, and trimmed.
-use mathlib.Core.Path.{_≡_, refl, sym, ap, ap₂, subst, _∙_}
-use mathlib.Core.Bool.{Bool, true, false, cond, _&&_}
-use mathlib.Core.List.{List, [], _∷_, _++_, map}
-use Prim.Native.Nat.{ℕ, zero, suc, _+_, _*_, _-_, _/_, _≤_, _<_, min}
+use mathlib.Core.Path.{_≡_, refl, sym, ap, subst, _∙_}
+use mathlib.Core.Bool.{Bool, true, false}
+use mathlib.Core.List.{List, [], _∷_, map}
+use Prim.Native.Nat.{ℕ, suc, _+_, _*_, _-_, _≤_, _<_}
 use native.Mathlib.Omega.{arith}
-use lib.ListN.{length, take}
+use lib.ListN.{length}
 use Rattle.theory.specs.Tree.{Tree}
 use Rattle.theory.specs.Clause.{Clause, clause, emptyClause}
 use Rattle.theory.specs.Words.{stride}
@@ -12,17 +12,17 @@ use Rattle.rule.specs.Rule.{supportMarks, solved, cleared, spare, trimmedBy, tr
 use Rattle.rule.proofs.Needs.{need-le}
 use Rattle.rule.proofs.Truths.{either}
 use Rattle.frame.specs.declared.Size.{Size}
-use Rattle.frame.specs.Held.{Tab, Held, Sized, Operand}
-use Rattle.listing.specs.Listed.{clauseStride, clauseWords, capacity}
+use Rattle.frame.specs.Held.{Tab}
+use Rattle.listing.specs.Listed.{clauseWords, capacity}
 use Rattle.dividing.specs.Dividing.{place}
 use Rattle.dividing.proofs.FitLaws.{fits-yes}
 use Rattle.solving.specs.declared.Solved.{Solved}
 use Rattle.solving.specs.declared.Solved.the-variants.{Done, Nodes}
-use Rattle.harmless.specs.Memory.{block, frameAt, Remembers, memory}
+use Rattle.harmless.specs.Memory.{frameAt}
 use Rattle.solving.specs.Solving.{Same, Out, Ready, Answers as SolveAnswers, Solves}
 use Rattle.solving.proofs.SolveLaws.{tab-same, frame-next, frame-up}
 use Rattle.trimming.specs.declared.Shortened.the-variants as shortened
-use Rattle.trimming.specs.Trimming.{Says, TrimReady, Trims, ListReady, Shortens}
+use Rattle.trimming.specs.Trimming.{TrimReady, Trims, ListReady, Shortens}
 
 -- trimming keeps the number of clauses
 map-long : (s : Clause → Clause) (ys : List Clause) → length (map s ys) ≡ length ys

@@ -1,9 +1,8 @@
 -- Trimming: one mark, and the loop over the support.
-use mathlib.Core.Path.{_≡_, refl, sym, ap, ap₂, subst, _∙_}
-use mathlib.Core.Logic.{_≢_}
-use mathlib.Core.Bool.{Bool, true, false, cond, not}
-use mathlib.Core.List.{List, [], _∷_, map}
-use Prim.Native.Nat.{ℕ, zero, suc, _+_, _*_, _^_, _≤_, _<_}
+use mathlib.Core.Path.{_≡_, refl, sym, ap, subst, _∙_}
+use mathlib.Core.Bool.{Bool, true, false, not}
+use mathlib.Core.List.{List, []}
+use Prim.Native.Nat.{ℕ, _^_, _<_}
 use native.Mathlib.Omega.{arith}
 use lib.ListN.{length, take}
 use Rattle.theory.specs.Mask.{setBit}
@@ -12,12 +11,11 @@ use Rattle.theory.specs.Clause.{Clause, marksOf}
 use Rattle.theory.proofs.Cases.{cofactor-deep}
 use Rattle.theory.proofs.Marks.{marks-of-zero}
 use Rattle.theory.proofs.Support.{support-lt}
-use Rattle.rule.specs.Rule.{supportMarks, spare, cleared, trimmedBy, trimmed}
+use Rattle.rule.specs.Rule.{supportMarks, spare, trimmedBy, trimmed}
 use Rattle.frame.specs.declared.Size.{Size}
-use Rattle.frame.specs.Held.{Tab, Held, Sized, Operand, Reads}
+use Rattle.frame.specs.Held.{Tab, Reads}
 use Rattle.frame.proofs.Views.{tab-kept}
 use Rattle.frame_implies.specs.Framed.{saysNo, without}
-use Rattle.listing.specs.Listed.{clauseStride}
 use Rattle.dividing.proofs.FitLaws.{only, inside-is, Next}
 use Rattle.trimming.specs.Trimming.{Says, Clears, TrimReady, TrimsBy, Trims}
 

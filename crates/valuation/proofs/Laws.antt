@@ -14,8 +14,9 @@ use borrow.Author.Tests.{eq-eqb, ne-eqb, eqb-true, lt-leb, lt-ltb}
 use Rattle.theory.specs.Mask.{odd, bit}
 use Rattle.theory.proofs.Masks.{bit-zero, bit-ext}
 use Rattle.theory.specs.Clause.{Clause, WellFormed, cell, emptyClause, extending, entriesOf, gather}
-use Rattle.theory.proofs.Clauses.{isSet, cell-fixed, and-left, and-right, not-malformed, putCell, putCell-formed, cell-putCell, putCell-twice, putCell-idle, cell-ext, empty-formed, extending-self, extending-both, extending-antisym, extending-cells}
+use Rattle.theory.proofs.Clauses.{isSet, cell-fixed, not-malformed, putCell, putCell-formed, cell-putCell, putCell-twice, putCell-idle, cell-ext, empty-formed, extending-self, extending-both, extending-antisym, extending-cells}
 use Rattle.theory.proofs.Gathers.{MarksBelow, gather-last, gather-formed, entries-below, from-entries, Rising, to-entries}
+use Rattle.theory.proofs.Truths.{and-true}
 use Rattle.refusal.specs.Number.{order}
 use Rattle.refusal.specs.Limits.{maxMarks}
 use Rattle.refusal.specs.Verdict.{Verdict, answered, Finding, firstOf, tried, judged, replied, refusalReply}
@@ -320,10 +321,10 @@ unfolding sameWords
 same-is c d e = λ i. record { fixed = p i; values = q i }
   where
     p : c .fixed ≡ d .fixed
-    p = eqb-true (c .fixed) (d .fixed) (and-left (eqb (c .fixed) (d .fixed)) (eqb (c .values) (d .values)) e)
+    p = eqb-true (c .fixed) (d .fixed) (and-true (eqb (c .fixed) (d .fixed)) (eqb (c .values) (d .values)) e .0)
 
     q : c .values ≡ d .values
-    q = eqb-true (c .values) (d .values) (and-right (eqb (c .fixed) (d .fixed)) (eqb (c .values) (d .values)) e)
+    q = eqb-true (c .values) (d .values) (and-true (eqb (c .fixed) (d .fixed)) (eqb (c .values) (d .values)) e .1)
 
 -- equal words exactly if equal cells at every mark
 pub equal-cells : (c d : Clause) → WellFormed maxMarks c → WellFormed maxMarks d → (asksEqual c d ≡ saysTruth true) ↔ ((m : ℕ) → getsValue c m ≡ getsValue d m)

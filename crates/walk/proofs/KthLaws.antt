@@ -1,6 +1,6 @@
 -- The walk as a whole: each step yields the next clause of the table's path list, and after the last every step says ended.
 use mathlib.Core.Path.{_≡_, refl, sym, ap, ap₂, subst⁻¹, _∙_}
-use mathlib.Core.Logic.{_⊎_, inl, inr}
+use mathlib.Core.Logic.{inl, inr}
 use mathlib.Core.Bool.{true}
 use mathlib.Core.List.{List, [], _∷_}
 use Prim.Native.Nat.{ℕ, zero, suc, _-_, _≤_, _<_}
@@ -11,13 +11,11 @@ use Rattle.theory.specs.Table.{Reduced}
 use Rattle.theory.specs.Words.{nodes}
 use Rattle.theory.specs.Clause.{Clause, emptyClause}
 use Rattle.theory.proofs.Words.{length-nodes}
-use Rattle.refusal.specs.Verdict.{Verdict, refused, answered}
+use Rattle.refusal.specs.Verdict.{refused}
 use Rattle.table.specs.Inspection.{rootOf, SoundTable}
 use Rattle.paths.specs.Paths.{pathList}
-use Rattle.walk.specs.declared.PathState.{PathState}
-use Rattle.walk.specs.declared.PathStart.{PathStart}
 use Rattle.reduced.specs.Reduced.{admitsWalk}
-use Rattle.walk.specs.Path.{kept, turned, pathNext, firstPath, inArray, stateOf, held, Held}
+use Rattle.walk.specs.Path.{kept, turned, pathNext, firstPath, inArray, stateOf, Held}
 use Rattle.walk.specs.Walk.{ended, yields, stepOf, nextPath, startBy, startOf, heldWords, wordsOf, pathOf, pathAfter, kthStep, tells, clausesBy, walkClauses}
 use Rattle.reduced.proofs.CheckLaws.{Stopped, Admitted, walk-either, reduced-admits, refused-number}
 use Rattle.walk.proofs.PathLaws.{held-is}

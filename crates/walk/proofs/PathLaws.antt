@@ -1,20 +1,21 @@
 -- Paths in their arrays, and what is known of the nodes on them.
 use mathlib.Core.Path.{_≡_, refl, sym, ap, ap₂, subst, _∙_}
-use mathlib.Core.Logic.{_≢_, _⊎_, inl, inr}
-use mathlib.Core.Bool.{Bool, true, false, cond, not, _&&_}
-use mathlib.Core.List.{List, [], _∷_, _++_, append-assoc, append-nil}
+use mathlib.Core.Logic.{_≢_, inl, inr}
+use mathlib.Core.Bool.{Bool, true, false, cond, not}
+use mathlib.Core.List.{List, [], _∷_, _++_}
 use Prim.Native.Nat.{ℕ, zero, suc, _+_, _*_, _-_, _≤_, _<_}
 use native.Mathlib.Omega.{arith}
+use native.Mathlib.Nat.{pos-of-ne-zero}
 use native.Mathlib.Decide.{ℕ-discrete, decLt}
-use lib.Dec.{eqb, ltb}
-use lib.ListN.{length, getD, set, take, drop, replicate, length-append, length-set, length-replicate, List·getD-append, drop-of-length-le}
+use lib.Dec.{eqb}
+use lib.ListN.{length, getD, set, take, drop, replicate, length-append, length-replicate, List·getD-append, drop-of-length-le}
 use lib.Seq.{take-append-seam, take-append-le, set-append-seam, take-suc, length-take-le, getD-take, drop-cons, append-snoc}
-use borrow.Author.Tests.{eq-eqb, ne-eqb, eqb-true, eqb-false, lt-ltb, le-ltb, not-true}
-use Rattle.theory.specs.Table.{Node, node, Table, at, childOf, Ordered, Reduced}
+use borrow.Author.Tests.{eq-eqb, ne-eqb, eqb-false, lt-ltb, le-ltb, not-true}
+use Rattle.theory.specs.Table.{Table, at, childOf, Reduced}
 use Rattle.theory.specs.Words.{stride, nodeAt, nodes}
 use Rattle.theory.specs.Clause.{Clause, clause, emptyClause, setCell}
-use Rattle.theory.proofs.Find.{and-true}
-use Rattle.theory.proofs.Words.{length-nodes, at-nodes}
+use Rattle.theory.proofs.Words.{length-nodes, at-nodes, child-falls}
+use Rattle.theory.proofs.Truths.{and-true}
 use Rattle.refusal.specs.Limits.{maxMarks}
 use Rattle.table.specs.declared.BddPointer.{BddPointer}
 use Rattle.valuation.specs.declared.BddPartialValuation.{BddPartialValuation}
@@ -57,13 +58,10 @@ module _ (w : List ℕ) (n count : ℕ) (r : Reduced n (nodes count w)) where
   inside : (p : ℕ) → p < count → p < length s
   inside p h = omega (arith, length-nodes count w)
 
-  pub link-falls : (p : ℕ) (b : Bool) → 2 ≤ p → p < count → childOf b (nodeAt w p) < p
-  link-falls p b two h = rw (here p h) at (r .ordered .links p b two (inside p h))
-
   pub mark-rises : (p : ℕ) (b : Bool) → 2 ≤ p → p < count → (nodeAt w p) .mark < (nodeAt w (childOf b (nodeAt w p))) .mark
   mark-rises p b two h =
       let f : (nodeAt w p) .mark < (at s (childOf b (nodeAt w p))) .mark = rw (here p h) at (r .ordered .falls p b two (inside p h)) in
-      rw (here (childOf b (nodeAt w p)) (omega (arith, link-falls p b two h))) at f
+      rw (here (childOf b (nodeAt w p)) (omega (arith, child-falls n count w (r .ordered) p b two h))) at f
 
   pub mark-inner : (p : ℕ) → 2 ≤ p → p < count → (nodeAt w p) .mark < n
   mark-inner p two h = rw (here p h) at (r .ordered .marks p two (inside p h))
@@ -87,15 +85,11 @@ module _ (w : List ℕ) (n count : ℕ) (r : Reduced n (nodes count w)) where
   goes-on p two h = elim (ℕ-discrete ((nodeAt w p) .low) 0) [
     | yes e ↦
         let is : onward (nodeAt w p) ≡ (nodeAt w p) .high = rw (eq-eqb ((nodeAt w p) .low) 0 e) in
-        record { way = true; by = is; some = omega (arith, is, not-zero ((nodeAt w p) .high) (λ z. links-differ p two h (e ∙ sym z))) }
+        record { way = true; by = is; some = omega (arith, is, pos-of-ne-zero (λ z. links-differ p two h (e ∙ sym z))) }
     | no e ↦
         let is : onward (nodeAt w p) ≡ (nodeAt w p) .low = rw (ne-eqb ((nodeAt w p) .low) 0 e) in
-        record { way = false; by = is; some = omega (arith, is, not-zero ((nodeAt w p) .low) e) }
+        record { way = false; by = is; some = omega (arith, is, pos-of-ne-zero e) }
   ]
-    where
-      not-zero : (k : ℕ) → (k ≡ 0 → ⊥) → 1 ≤ k
-      not-zero zero f = absurd (f refl)
-      not-zero (suc k) f = omega arith
 
 -- the first path, node by node
 pub first-end : (k : ℕ) (w : List ℕ) (p : ℕ) → p < 2 → firstFrom k w p ≡ pointer p ∷ []
@@ -153,7 +147,7 @@ module _ (w : List ℕ) where
         on-by = goes-on w (g .n) (g .count) (g .reduced) (q .0) two (g .lies)
 
         falls : onward (nodeAt w (q .0)) < q .0
-        falls = rw (on-by .by) (link-falls w (g .n) (g .count) (g .reduced) (q .0) (on-by .way) two (g .lies))
+        falls = rw (on-by .by) (child-falls (g .n) (g .count) w (g .reduced .ordered) (q .0) (on-by .way) two (g .lies))
 
         rises : (nodeAt w (q .0)) .mark < (nodeAt w (onward (nodeAt w (q .0)))) .mark
         rises = rw (on-by .by) (mark-rises w (g .n) (g .count) (g .reduced) (q .0) (on-by .way) two (g .lies))
@@ -188,7 +182,7 @@ module _ (w : List ℕ) where
     pub descent-falls : 1 < q .0 → (q′ : ℕ) → q′ ≡ onward (nodeAt w (q .0)) → q′ < q .0
     descent-falls two q′ e =
         let g : Goes w (d .goes .n) (d .goes .count) (d .goes .reduced) (q .0) = goes-on w (d .goes .n) (d .goes .count) (d .goes .reduced) (q .0) two (d .goes .lies) in
-        rw (e, g .by) (link-falls w (d .goes .n) (d .goes .count) (d .goes .reduced) (q .0) (g .way) two (d .goes .lies))
+        rw (e, g .by) (child-falls (d .goes .n) (d .goes .count) w (d .goes .reduced .ordered) (q .0) (g .way) two (d .goes .lies))
 
     pub descent-end : q .0 ≤ 1 → _≡_ {A = PathState} (record { len = len + 1; path = set path len q }) (stateOf whole)
     descent-end h =
@@ -212,7 +206,7 @@ module _ (w : List ℕ) (x : Path) (a : Along w x) where
 
   next-place : (i p q : ℕ) (b : Bool) → 2 ≤ p → p < a .count → q ≡ childOf b (nodeAt w p) → i ≤ (nodeAt w p) .mark → (q < a .count) × (suc i ≤ (nodeAt w q) .mark)
   next-place i p q b two h e d =
-      let f : childOf b (nodeAt w p) < p = link-falls w (a .n) (a .count) (a .reduced) p b two h in
+      let f : childOf b (nodeAt w p) < p = child-falls (a .n) (a .count) w (a .reduced .ordered) p b two h in
       let m : (nodeAt w p) .mark < (nodeAt w (childOf b (nodeAt w p))) .mark = mark-rises w (a .n) (a .count) (a .reduced) p b two h in
       rw e (omega arith, omega arith)
 
@@ -248,7 +242,7 @@ module _ (w : List ℕ) (x : Path) (a : Along w x) where
         marks = a .marks;
         long = a .long;
         reduced = a .reduced;
-        lies = omega (arith, link-falls w (a .n) (a .count) (a .reduced) (on x i) true two (p .lies), p .lies);
+        lies = omega (arith, child-falls (a .n) (a .count) w (a .reduced .ordered) (on x i) true two (p .lies), p .lies);
         ends = omega (arith, ne);
         deep = omega (arith, mark-rises w (a .n) (a .count) (a .reduced) (on x i) true two (p .lies), p .deep, length-take-le (suc i) x (omega arith));
       }

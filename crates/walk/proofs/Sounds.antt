@@ -6,7 +6,7 @@ use denote.Ref.{now}
 use Rattle.walk.specs.declared.BddPathIterator.{BddPathIterator}
 use Rattle.walk.specs.Path.{Held}
 use Rattle.walk.proofs.KthLaws.{after-held}
-use Rattle.walk.specs.Walk.{startOf, wordsOf, pathOf, nextPath, pathAfter, pathIn, startIn, moved, FromStart}
+use Rattle.walk.specs.Walk.{startOf, wordsOf, pathOf, nextPath, pathIn, startIn, moved, FromStart}
 
 -- a walk that came from a start holds a path or none, what `new` makes came from a start, and so does what a step makes of such a walk
 pub from-start : (w : BddPathIterator) → FromStart w → Held (now (w .bdd)) (pathIn w)

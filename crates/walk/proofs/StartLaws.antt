@@ -1,16 +1,15 @@
 -- A walk's start: the first path of an admitted table, or the refusal and no path; and what a step says.
-use mathlib.Core.Path.{_≡_, refl, sym, ap, subst, _∙_}
-use mathlib.Core.Logic.{_≢_, _⊎_, inl, inr}
-use mathlib.Core.Bool.{cond}
+use mathlib.Core.Path.{_≡_, refl, sym, ap, _∙_}
+use mathlib.Core.Logic.{_≢_, inl, inr}
 use mathlib.Core.List.{List, [], _∷_, _++_}
-use Prim.Native.Nat.{ℕ, zero, suc, _*_, _-_, _≤_, _<_}
+use Prim.Native.Nat.{ℕ, _-_}
 use native.Mathlib.Omega.{arith}
-use lib.ListN.{length, replicate}
+use lib.ListN.{replicate}
 use borrow.Author.Tests.{eq-eqb, ne-eqb}
 use Rattle.theory.specs.Table.{Reduced}
 use Rattle.theory.specs.Words.{nodes}
 use Rattle.theory.specs.Clause.{Clause}
-use Rattle.refusal.specs.Verdict.{Verdict, refused, answered, replied, refusedWith, gives, Reply}
+use Rattle.refusal.specs.Verdict.{refused, replied, refusedWith, gives}
 use Rattle.refusal.specs.Limits.{maxMarks}
 use Rattle.refusal.specs.declared.Refusal.{Refusal}
 use Rattle.refusal.proofs.Single.{no-values, one-value}
@@ -19,14 +18,14 @@ use Rattle.valuation.specs.Valuation.{clauseOf}
 use Rattle.table.specs.declared.BddPointer.{BddPointer}
 use Rattle.table.specs.declared.Inspection.{Inspection}
 use Rattle.table.specs.declared.Inspection.the-variants.{Sound, Refused}
-use Rattle.table.specs.Inspection.{inspectionReply, refusalIn, rootOf, SoundTable}
+use Rattle.table.specs.Inspection.{inspectionReply, refusalIn, SoundTable}
 use Rattle.walk.specs.declared.PathState.{PathState}
 use Rattle.walk.specs.declared.PathStart.{PathStart}
 use Rattle.walk.specs.declared.PathStep.the-variants as step
 use Rattle.reduced.specs.Reduced.{admitsWalk}
-use Rattle.walk.specs.Path.{Path, pointer, firstFrom, firstPath, clauseAlong, places, inArray, stateOf, held, Descending}
-use Rattle.walk.specs.Walk.{pathStepReply, stepOf, ended, yields, startBy, startOf}
-use Rattle.reduced.proofs.CheckLaws.{Stopped, Admitted, walk-either}
+use Rattle.walk.specs.Path.{pointer, firstFrom, firstPath, clauseAlong, places, inArray, stateOf, held, Descending}
+use Rattle.walk.specs.Walk.{pathStepReply, stepOf, startBy, startOf}
+use Rattle.reduced.proofs.CheckLaws.{Admitted, walk-either}
 
 -- no path yet
 abbrev none : PathState

@@ -1,10 +1,10 @@
 -- Each promise of the walk leaves one possible result.
 use mathlib.Core.Path.{_≡_, refl, sym, ap, _∙_}
 use mathlib.Core.List.{List, [], _∷_}
-use Prim.Native.Nat.{ℕ, suc}
+use Prim.Native.Nat.{ℕ}
 use native.Mathlib.Omega.{arith}
-use denote.Ref.{RefT, now}
-use Rattle.refusal.specs.Verdict.{Reply, Verdict, replied, gives}
+use denote.Ref.{now}
+use Rattle.refusal.specs.Verdict.{Reply, replied}
 use Rattle.refusal.specs.declared.Refusal.{Refusal}
 use Rattle.refusal.proofs.Single.{OneToOne, Single, single}
 use Rattle.valuation.specs.declared.BddPartialValuation.{BddPartialValuation}
@@ -12,7 +12,7 @@ use Rattle.walk.specs.declared.BddPathIterator.{BddPathIterator}
 use Rattle.walk.specs.declared.PathStart.{PathStart}
 use Rattle.walk.specs.declared.PathStep.{PathStep}
 use Rattle.walk.specs.declared.PathStep.the-variants.{Clause, Ended}
-use Rattle.walk.specs.Walk.{pathStepReply, stepOf, tells, walkClauses, startOf, wordsOf, startIn, pathIn, refusalIn, moved}
+use Rattle.walk.specs.Walk.{pathStepReply, stepOf, tells, walkClauses, startOf, wordsOf, pathIn, refusalIn, moved}
 
 valuation-eq : (u v : BddPartialValuation) → u .fixed ≡ v .fixed → u .values ≡ v .values → u ≡ v
 valuation-eq u v p q = λ i. record { fixed = p i; values = q i }

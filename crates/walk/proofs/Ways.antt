@@ -1,18 +1,19 @@
 -- All paths to node 1 in the order of the path list, as the nodes on the way; the next path after each of them, and their clauses.
 use mathlib.Core.Path.{_≡_, refl, sym, ap, ap₂, _∙_}
 use mathlib.Core.Logic.{_≢_, _⊎_, inl, inr}
-use mathlib.Core.Bool.{Bool, true, false, cond, not, _&&_, Bool·beq}
+use mathlib.Core.Bool.{Bool, true, false, cond}
 use mathlib.Core.List.{List, [], _∷_, _++_, map}
 use Prim.Native.Nat.{ℕ, zero, suc, _+_, _*_, _-_, _≤_, _<_}
 use native.Mathlib.Omega.{arith}
+use native.Mathlib.Nat.{pos-of-ne-zero}
 use native.Mathlib.Decide.{ℕ-discrete, decLt}
 use lib.Dec.{eqb, ltb}
-use lib.ListN.{length, getD, take}
+use lib.ListN.{length, getD}
 use borrow.Author.Tests.{eq-eqb, ne-eqb, lt-ltb, le-ltb}
-use Rattle.theory.specs.Table.{Node, node, Table, at, childOf, truth, Reduced}
+use Rattle.theory.specs.Table.{Table, at, childOf, Reduced}
 use Rattle.theory.specs.Words.{stride, nodeAt, nodes}
 use Rattle.theory.specs.Clause.{Clause, emptyClause, setCell}
-use Rattle.theory.proofs.Words.{length-nodes, at-nodes}
+use Rattle.theory.proofs.Words.{at-nodes, child-falls}
 use Rattle.refusal.specs.Limits.{maxMarks}
 use Rattle.paths.specs.Paths.{ended, pathsFrom, pathList}
 use Rattle.table.specs.declared.BddPointer.{BddPointer}
@@ -20,7 +21,7 @@ use Rattle.walk.specs.Path.{Path, pointer, on, onward, firstFrom, firstP
 use Rattle.walk.specs.declared.PathState.{PathState}
 use Rattle.walk.specs.Path.{stateOf, held, Held}
 use Rattle.walk.specs.Walk.{stepOf, yields, nextPath, pathAfter, tells}
-use Rattle.walk.proofs.PathLaws.{held-is, first-end, first-inner, link-falls, mark-rises, mark-inner, mark-constant, links-differ}
+use Rattle.walk.proofs.PathLaws.{held-is, first-end, first-inner, mark-rises, mark-inner, links-differ}
 
 -- the ways on from a constant: none from 0, and one from 1
 abbrev arrived : ℕ → List Path
@@ -176,7 +177,7 @@ module _ (w : List ℕ) (n count : ℕ) (r : Reduced n (nodes count w)) where
   above k p b two t = record {
     level = suc (t .level);
     levels = omega (arith, t .levels);
-    lies = omega (arith, link-falls w n count r p b two (t .lies), t .lies);
+    lies = omega (arith, child-falls n count w (r .ordered) p b two (t .lies), t .lies);
     deep = omega (arith, mark-rises w n count r p b two (t .lies), t .deep);
   }
 
@@ -224,14 +225,10 @@ module _ (w : List ℕ) (n count : ℕ) (r : Reduced n (nodes count w)) where
         elim (ℕ-discrete ((nodeAt w p) .low) 0) [
           | yes e ↦
               high-first k f p two e
-              (ways-first k f ((nodeAt w p) .high) (omega (arith, not-zero ((nodeAt w p) .high) (λ z. links-differ w n count r p two (t .lies) (e ∙ sym z)))) (above k p true two t) (omega (arith, mark-rises w n count r p true two (t .lies))))
-          | no e ↦ low-first k f p two e (ways-first k f ((nodeAt w p) .low) (not-zero ((nodeAt w p) .low) e) (above k p false two t) (omega (arith, mark-rises w n count r p false two (t .lies))))
+              (ways-first k f ((nodeAt w p) .high) (omega (arith, pos-of-ne-zero (λ z. links-differ w n count r p two (t .lies) (e ∙ sym z)))) (above k p true two t) (omega (arith, mark-rises w n count r p true two (t .lies))))
+          | no e ↦ low-first k f p two e (ways-first k f ((nodeAt w p) .low) (pos-of-ne-zero e) (above k p false two t) (omega (arith, mark-rises w n count r p false two (t .lies))))
         ]
   ]
-    where
-      not-zero : (k : ℕ) → (k ≡ 0 → ⊥) → 1 ≤ k
-      not-zero zero f = absurd (f refl)
-      not-zero (suc k) f = omega arith
 
   -- after the last low way comes the first high one
   turn-low : (k p : ℕ) → 2 ≤ p → n ≤ maxMarks → Stands (suc k) p → turnedAt w p ((nodeAt w p) .low) ≡ headOr [] (behind p (ways k w ((nodeAt w p) .high)))

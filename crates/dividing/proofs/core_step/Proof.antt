@@ -1,6 +1,5 @@
 -- `core_step`: the for-all is too large, has more cases, or has not.
 use borrow.Author.Needs.{needs}
-use native.Mathlib.Omega.{arith}
 use Rattle.dividing.proofs.CoreLaws.{ask-all, step-over, ask-cases, ask-copy, step-more, step-less}
 use Rattle.dividing.proofs.core_step.Statement.{statement}
 use Rattle.dividing.proofs.core_step.Tie as tie

@@ -1,6 +1,4 @@
 use native.Mathlib.Omega.{arith}
-use Rattle.carry.specs.Carry.{Parts}
-use Rattle.frame_carry.specs.Framed.{tablePart}
 use Rattle.frame_carry.proofs.FramedLaws.{split-asks, done-in, parts-in, low-falls, high-falls, low-asks, low-over, high-asks, high-over, finish-asks, carried-in}
 use borrow.Author.Needs.{needs}
 use Prim.Native.Nat.{ℕ, _<_, _+_, _*_}

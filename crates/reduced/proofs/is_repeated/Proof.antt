@@ -1,6 +1,6 @@
 use mathlib.Core.Bool.{true, false}
 use native.Mathlib.Omega.{arith}
-use Rattle.reduced.proofs.ReducedLaws.{link-below, mark-fits, found-repeats, nowhere-repeats}
+use Rattle.reduced.proofs.ReducedLaws.{mark-fits, found-repeats, nowhere-repeats}
 use borrow.Author.Needs.{needs}
 use Rattle.reduced.proofs.is_repeated.Statement.{statement}
 use Rattle.reduced.proofs.is_repeated.Tie as tie
@@ -10,6 +10,7 @@ use Rattle.pool.proofs.find_node.Reads as find-node-reads
 use Rattle.table.proofs.high_link_of.Reads as high-link-of-reads
 use Rattle.table.proofs.low_link_of.Reads as low-link-of-reads
 use Rattle.table.proofs.var_of.Reads as var-of-reads
+use Rattle.theory.proofs.Words.{child-falls}
 
 var-of-requires : tie.Need-var-of-requires
 var-of-requires c κs = (omega (arith, c .before .pre .0 .long), mark-fits _ _ _ _ (c .before .pre .0) _ (c .before .pre .1) (c .before .pre .2))
@@ -23,7 +24,7 @@ high-link-of-requires c κs = search needs
 find-node-requires : tie.Need-find-node-requires
 find-node-requires c κs =
     let t = c .before .before .before .before .pre in
-    (omega (arith, t .0 .long), omega (arith, c .before .low-link-of .ensures, link-below _ _ _ _ (t .0) _ false (t .1) (t .2)), omega (arith, c .high-link-of .ensures, link-below _ _ _ _ (t .0) _ true (t .1) (t .2)))
+    (omega (arith, t .0 .long), omega (arith, c .before .low-link-of .ensures, child-falls _ _ _ (t .0 .ordered) _ false (t .1) (t .2)), omega (arith, c .high-link-of .ensures, child-falls _ _ _ (t .0 .ordered) _ true (t .1) (t .2)))
 
 enum-told : tie.Need-enum-told
 enum-told c = search needs

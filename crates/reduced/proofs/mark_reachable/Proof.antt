@@ -5,12 +5,13 @@ use native.Mathlib.Omega.{arith}
 use lib.ListN.{length, length-replicate}
 use borrow.Author.Needs.{needs}
 use Rattle.refusal.specs.Limits.{maxNodes}
-use Rattle.reduced.proofs.ReducedLaws.{Marking, marking-first, marking-again, marking-done, link-below}
+use Rattle.reduced.proofs.ReducedLaws.{Marking, marking-first, marking-again, marking-done}
 use Rattle.reduced.proofs.mark_reachable.Statement.{statement}
 use Rattle.reduced.proofs.mark_reachable.Tie as tie
 use Rattle.reduced.proofs.mark_reachable.Reads as reads
 use Rattle.reduced.proofs.mark_reachable.Lts as lts
 use Rattle.reduced.proofs.mark_links.Reads as mark-links-reads
+use Rattle.theory.proofs.Words.{child-falls}
 
 abbrev Inv-loop : tie.InvT-loop
 Inv-loop n count bdd marks₀ p₀ at marks p = (Marking n count bdd (suc p) marks) × (p < count)
@@ -34,7 +35,7 @@ mark-links-requires c κs =
     let t = c .before .before .before .before .before .pre .0 in
     let i = c .before .before .loop .inv in
     let two = c .before .loop-test .taken in
-    (omega (arith, t .long, i .1), omega (arith, i .0 .long, i .1, t .few), omega (arith, i .0 .long, i .1, t .few, link-below _ _ _ _ t _ false two (i .1)), omega (arith, i .0 .long, i .1, t .few, link-below _ _ _ _ t _ true two (i .1)))
+    (omega (arith, t .long, i .1), omega (arith, i .0 .long, i .1, t .few), omega (arith, i .0 .long, i .1, t .few, child-falls _ _ _ (t .ordered) _ false two (i .1)), omega (arith, i .0 .long, i .1, t .few, child-falls _ _ _ (t .ordered) _ true two (i .1)))
 
 sub-p : tie.Need-sub-p Inv-loop μ-loop
 sub-p c = omega arith

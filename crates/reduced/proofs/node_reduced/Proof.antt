@@ -1,5 +1,4 @@
 use mathlib.Core.Path.{sym, _∙_}
-use native.Mathlib.Omega.{arith}
 use Rattle.reduced.proofs.ReducedLaws.{constant-passes, same-links, repeats, marked-reduced}
 use borrow.Author.Needs.{needs}
 use Rattle.reduced.proofs.node_reduced.Statement.{statement}

@@ -1,4 +1,3 @@
-use mathlib.Core.Path.{sym, _∙_}
 use Rattle.table.specs.Inspection.{inspectionReply}
 use Rattle.reduced.proofs.CheckLaws.{check-refused, check-sound, check-unreduced, check-reduced}
 use borrow.Author.Needs.{needs}

@@ -1,5 +1,4 @@
 -- `short_deep`: the test itself.
-use borrow.Author.Needs.{needs}
 use native.Mathlib.Omega.{arith}
 use Rattle.short.proofs.AdmitLaws.{deep-is, deep-fits}
 use Rattle.short.proofs.short_deep.Statement.{statement}

@@ -1,5 +1,4 @@
 -- `literals`: the core's, or those of a side.
-use borrow.Author.Needs.{needs}
 use mathlib.Core.Path.{_∙_}
 use Rattle.valuation.specs.Valuation.{clauseOf}
 use Rattle.solving.proofs.PartLaws.{core-literals, side-literals}

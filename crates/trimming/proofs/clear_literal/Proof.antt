@@ -1,8 +1,6 @@
 -- `clear_literal`: the mark is not fixed, has the other value, or is cleared.
-use borrow.Author.Needs.{needs}
 use mathlib.Core.Path.{sym, _∙_}
 use borrow.Author.Tests.{not-true, not-false}
-use Rattle.refusal.specs.Limits.{maxMarks}
 use native.Mathlib.Omega.{arith}
 use Rattle.valuation.specs.Valuation.{clauseOf}
 use Rattle.trimming.proofs.ClearLaws.{not-fixed, other-value, is-cleared, value-differs}

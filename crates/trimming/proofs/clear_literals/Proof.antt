@@ -1,6 +1,5 @@
 -- `clear_literals`: the clauses so far are cleared.
-use borrow.Author.Needs.{needs}
-use Prim.Native.Nat.{ℕ, _-_}
+use Prim.Native.Nat.{_-_}
 use native.Mathlib.Omega.{arith}
 use lib.ListN.{length-set}
 use Rattle.valuation.specs.Valuation.{clauseOf}

@@ -1,5 +1,4 @@
 -- `trim_marks`: the clauses so far, and the marks that are left.
-use borrow.Author.Needs.{needs}
 use native.Mathlib.Omega.{arith}
 use lib.ListN.{length}
 use Rattle.theory.specs.Clause.{marksOf}

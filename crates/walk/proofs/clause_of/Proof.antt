@@ -1,5 +1,4 @@
-use Prim.Native.Nat.{_-_, _<_, suc}
-use mathlib.Core.Path.{_≡_}
+use Prim.Native.Nat.{_-_}
 use native.Mathlib.Omega.{arith}
 use lib.ListN.{take}
 use borrow.Author.Needs.{needs}

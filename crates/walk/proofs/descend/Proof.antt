@@ -3,7 +3,7 @@ use lib.ListN.{take}
 use Prim.Native.Nat.{_-_}
 use native.Mathlib.Omega.{arith}
 use Rattle.refusal.specs.Limits.{maxMarks}
-use Rattle.walk.specs.Path.{firstFrom, held}
+use Rattle.walk.specs.Path.{firstFrom}
 use Rattle.walk.proofs.PathLaws.{Descent, descent-start, descent-fits, descent-reads, descent-step, descent-end, descent-falls}
 use Rattle.walk.proofs.descend.Statement.{statement}
 use Rattle.walk.proofs.descend.Tie as tie

@@ -1,7 +1,6 @@
 use mathlib.Core.Path.{refl}
 use borrow.Author.Tests.{eq-eqb, ne-eqb}
 use Rattle.walk.specs.Walk.{heldWords}
-use borrow.Author.Needs.{needs}
 use Rattle.walk.proofs.held_words.Statement.{statement}
 use Rattle.walk.proofs.held_words.Tie as tie
 use Rattle.walk.proofs.held_words.Reads as reads

@@ -1,4 +1,3 @@
-use mathlib.Core.Path.{sym, _∙_}
 use Prim.Native.Nat.{_-_}
 use native.Mathlib.Omega.{arith}
 use Rattle.walk.proofs.PathLaws.{state-short, state-long, state-reads, kept-bound, next-none, next-ends, next-descends, next-goes}

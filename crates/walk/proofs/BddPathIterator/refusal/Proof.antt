@@ -37,7 +37,6 @@ use denote.Triple.Table.{entered}
 use denote.Triple.Walked.{says, Stays, stay-none-ref, walkOf, goes-none-ref, Walks, ends-at, walked, walk-meets}
 use denote.Exit.{yes}
 use Rattle.walk.specs.declared.BddPathIterator.{BddPathIterator}
-use Rattle.refusal.specs.declared.Refusal.{Refusal}
 use Rattle.walk.specs.Walk.{refusalIn}
 use Rattle.walk.proofs.BddPathIterator as T
 use Rattle.walk.proofs.BddPathIterator.Laws as T′
