@@ -23,7 +23,11 @@ cast-t11 c = search needs
 
 returns-2 : tie.Need-returns-2
 unfolding inspectionReply
-returns-2 c = variable-refused _ _ _ _ _ _ _ (sized _ _ _ _ _ _ _ (c .before .before .before .before .size-refusal .ensures) (c .before .before .before .if1 .left)) (sym (c .before .if2 .taken) ∙ c .before .before .over-mark .ensures)
+returns-2 c =
+    let at-over-mark = c .before .before in
+    let at-if1 = at-over-mark .before in
+    let at-size-refusal = at-if1 .before in
+    variable-refused _ _ _ _ _ _ _ (sized _ _ _ _ _ _ _ (at-size-refusal .size-refusal .ensures) (at-if1 .if1 .left)) (sym (c .before .if2 .taken) ∙ at-over-mark .over-mark .ensures)
 
 ordered-root-requires : tie.Need-ordered-root-requires
 ordered-root-requires c κs =
@@ -31,7 +35,11 @@ ordered-root-requires c κs =
     (within _ _ (s .limit) .some, within _ _ (s .limit) .few, long _ _ (s .short))
 
 returns-3 : tie.Need-returns-3
-returns-3 c = c .ordered-root .ensures ∙ mark-decides _ _ _ _ _ _ _ (sized _ _ _ _ _ _ _ (c .before .before .before .before .size-refusal .ensures) (c .before .before .before .if1 .left)) (sym (c .before .if2 .left) ∙ c .before .before .over-mark .ensures)
+returns-3 c =
+    let at-over-mark = c .before .before in
+    let at-if1 = at-over-mark .before in
+    let at-size-refusal = at-if1 .before in
+    c .ordered-root .ensures ∙ mark-decides _ _ _ _ _ _ _ (sized _ _ _ _ _ _ _ (at-size-refusal .size-refusal .ensures) (at-if1 .if1 .left)) (sym (c .before .if2 .left) ∙ at-over-mark .over-mark .ensures)
 
 pub admit-table-room-mark-spec : {M : Type 1} → statement M
 admit-table-room-mark-spec =

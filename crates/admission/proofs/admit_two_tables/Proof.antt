@@ -26,15 +26,25 @@ enum-told-2 : tie.Need-enum-told-2
 enum-told-2 c = search needs
 
 returns-2 : tie.Need-returns-2
-returns-2 c = left-refused _ _ _ _ _ _ _ _ (pair-sized _ _ _ _ _ _ _ _ _ (c .before .before .before .before .pair-size-refusal .ensures) (c .before .before .before .if1 .left)) _ (c .before .before .ordered-root .ensures) _ (c .enum-told2 .given .1)
+returns-2 c =
+    let at-ordered-root = c .before .before in
+    let at-if1 = at-ordered-root .before in
+    let at-pair-size-refusal = at-if1 .before in
+    left-refused _ _ _ _ _ _ _ _ (pair-sized _ _ _ _ _ _ _ _ _ (at-pair-size-refusal .pair-size-refusal .ensures) (at-if1 .if1 .left)) _ (at-ordered-root .ordered-root .ensures) _ (c .enum-told2 .given .1)
 
 ordered-root-requires-2 : tie.Need-ordered-root-requires-2
 ordered-root-requires-2 c κs =
-    let s = pair-sized _ _ _ _ _ _ _ _ _ (c .before .before .before .before .pair-size-refusal .ensures) (c .before .before .before .if1 .left) in
+    let at-if1 = c .before .before .before in
+    let at-pair-size-refusal = at-if1 .before in
+    let s = pair-sized _ _ _ _ _ _ _ _ _ (at-pair-size-refusal .pair-size-refusal .ensures) (at-if1 .if1 .left) in
     (within _ _ (s .limit′) .some, within _ _ (s .limit′) .few, long _ _ (s .short′))
 
 returns-3 : tie.Need-returns-3
-returns-3 c = c .ordered-root2 .ensures ∙ right-decides _ _ _ _ _ _ _ _ (pair-sized _ _ _ _ _ _ _ _ _ (c .before .before .before .before .before .pair-size-refusal .ensures) (c .before .before .before .before .if1 .left)) _ (c .before .before .before .ordered-root .ensures) _ (c .before .enum-told .given .1)
+returns-3 c =
+    let at-ordered-root = c .before .before .before in
+    let at-if1 = at-ordered-root .before in
+    let at-pair-size-refusal = at-if1 .before in
+    c .ordered-root2 .ensures ∙ right-decides _ _ _ _ _ _ _ _ (pair-sized _ _ _ _ _ _ _ _ _ (at-pair-size-refusal .pair-size-refusal .ensures) (at-if1 .if1 .left)) _ (at-ordered-root .ordered-root .ensures) _ (c .before .enum-told .given .1)
 
 pub admit-two-tables-spec : {M : Type 1} → statement M
 admit-two-tables-spec =

@@ -51,37 +51,44 @@ module _ (t : ℕ) where
 
   two : (c : carry-lts.After-high-link-of (told t) (at t) carry.Post) → let start = start-of c in
       2 ≤ start .args .p .0
-  two c = omega (arith, c .before .before .before .before .before .before .before .before .before .before .if1 .left)
+  two c =
+      let at-if1 = c .before .before .before .before .before .before .before .before .before .before in
+      omega (arith, at-if1 .if1 .left)
 
   unknown : (c : carry-lts.After-high-link-of (told t) (at t) carry.Post) → let start = start-of c in
       getD (start .args .work .now) (3 * start .args .goal .cap + start .args .p .0) 0 / memoBase ≡ start .args .goal .stamp → ⊥
   unknown c =
+      let at-enum-told = c .before .before .before .before .before .before in
+      let at-recall = at-enum-told .before .before in
       let start = start-of c in
-      subst (λ z. Recalls (getD (start .args .work .now) (3 * start .args .goal .cap + start .args .p .0) 0) (start .args .goal .stamp) z) (c .before .before .before .before .before .before .enum-told .given .1) (c .before .before .before .before .before .before .before .before .recall .ensures)
+      subst (λ z. Recalls (getD (start .args .work .now) (3 * start .args .goal .cap + start .args .p .0) 0) (start .args .goal .stamp) z) (at-enum-told .enum-told .given .1) (at-recall .recall .ensures)
 
   low-is : (c : carry-lts.After-known-told2 (told t) (at t) carry.Post) → let node = node-of c in let start = start-of node in
       Carried (start .args .work .now) (c .before .before .before .before .before .before .before .carry .last .0) (start .args .out .now) (c .before .before .before .before .before .before .before .carry .last .1 .0) (start .args .goal) (start .args .count) (start .args .made) (node .before .before .low-link-of .result .0) (c .before .lo .given .0 .0 .0) (c .before .lo .given .0 .1 .0)
   low-is c =
+      let at-carry = c .before .before .before .before .before .before .before in
       let node = node-of c in
       let start = start-of node in
-      subst (λ z. Carries (start .args .work .now) (c .before .before .before .before .before .before .before .carry .last .0) (start .args .out .now) (c .before .before .before .before .before .before .before .carry .last .1 .0) (start .args .goal) (start .args .count) (start .args .made) (node .before .before .low-link-of .result .0) z) (c .before .lo .given .1) (c .before .before .before .before .before .before .before .carry .ensures)
+      subst (λ z. Carries (start .args .work .now) (at-carry .carry .last .0) (start .args .out .now) (at-carry .carry .last .1 .0) (start .args .goal) (start .args .count) (start .args .made) (node .before .before .low-link-of .result .0) z) (c .before .lo .given .1) (at-carry .carry .ensures)
 
   high-is : (c : carry-lts.After-known-told3 (told t) (at t) carry.Post) → let low = low-of c in let node = node-of low in let start = start-of node in
       Carried (low .before .before .before .before .before .before .before .carry .last .0) (c .before .before .before .before .before .before .before .carry2 .last .0) (low .before .before .before .before .before .before .before .carry .last .1 .0) (c .before .before .before .before .before .before .before .carry2 .last .1 .0) (start .args .goal) (start .args .count) (low .before .lo .given .0 .1 .0) (node .high-link-of .result .0) (c .before .hi .given .0 .0 .0) (c .before .hi .given .0 .1 .0)
   high-is c =
+      let at-carry2 = c .before .before .before .before .before .before .before in
       let low = low-of c in
       let node = node-of low in
       let start = start-of node in
-      subst (λ z. Carries (low .before .before .before .before .before .before .before .carry .last .0) (c .before .before .before .before .before .before .before .carry2 .last .0) (low .before .before .before .before .before .before .before .carry .last .1 .0) (c .before .before .before .before .before .before .before .carry2 .last .1 .0) (start .args .goal) (start .args .count) (low .before .lo .given .0 .1 .0) (node .high-link-of .result .0) z) (c .before .hi .given .1) (c .before .before .before .before .before .before .before .carry2 .ensures)
+      subst (λ z. Carries (low .before .before .before .before .before .before .before .carry .last .0) (at-carry2 .carry2 .last .0) (low .before .before .before .before .before .before .before .carry .last .1 .0) (at-carry2 .carry2 .last .1 .0) (start .args .goal) (start .args .count) (low .before .lo .given .0 .1 .0) (node .high-link-of .result .0) z) (c .before .hi .given .1) (at-carry2 .carry2 .ensures)
 
   node-is : (c : carry-lts.After-known-told4 (told t) (at t) carry.Post) → let high = high-of c in let low = low-of high in let node = node-of low in let start = start-of node in
       Holds (pushed (high .before .before .before .before .before .before .before .carry2 .last .1 .0) (high .before .hi .given .0 .1 .0) (node .before .before .before .before .var-of .result .0) (low .before .lo .given .0 .0 .0) (high .before .hi .given .0 .0 .0)) (start .args .goal .room) (c .before .before .before .before .before .push-node .last .0) (c .before .noted .given .0 .0 .0) (c .before .noted .given .0 .1 .0)
   node-is c =
+      let at-push-node = c .before .before .before .before .before in
       let high = high-of c in
       let low = low-of high in
       let node = node-of low in
       let start = start-of node in
-      subst (λ z. Answers (pushed (high .before .before .before .before .before .before .before .carry2 .last .1 .0) (high .before .hi .given .0 .1 .0) (node .before .before .before .before .var-of .result .0) (low .before .lo .given .0 .0 .0) (high .before .hi .given .0 .0 .0)) (start .args .goal .room) (c .before .before .before .before .before .push-node .last .0) z) (c .before .noted .given .1) (c .before .before .before .before .before .push-node .ensures .0)
+      subst (λ z. Answers (pushed (high .before .before .before .before .before .before .before .carry2 .last .1 .0) (high .before .hi .given .0 .1 .0) (node .before .before .before .before .var-of .result .0) (low .before .lo .given .0 .0 .0) (high .before .hi .given .0 .0 .0)) (start .args .goal .room) (at-push-node .push-node .last .0) z) (c .before .noted .given .1) (at-push-node .push-node .ensures .0)
 
   returns : carry-lts.Need-returns (told t) (at t) carry.Post
   returns c =
@@ -101,8 +108,9 @@ module _ (t : ℕ) where
 
   returns-2 : carry-lts.Need-returns-2 (told t) (at t) carry.Post
   returns-2 c =
-      let start = c .before .before .before .before .before .before .before .before .before in
-      let e = subst (λ z. Recalls (getD (start .args .work .now) (3 * start .args .goal .cap + start .args .p .0) 0) (start .args .goal .stamp) z) (c .before .known .given .1) (c .before .before .before .recall .ensures) in
+      let at-recall = c .before .before .before in
+      let start = at-recall .before .before .before .before .before .before in
+      let e = subst (λ z. Recalls (getD (start .args .work .now) (3 * start .args .goal .cap + start .args .p .0) 0) (start .args .goal .stamp) z) (c .before .known .given .1) (at-recall .recall .ensures) in
       carry-memo _ _ _ _ _ _ (start .pre .1) _ (e .0) (e .1)
 
   enum-told : carry-lts.Need-enum-told (told t) (at t) carry.Post
@@ -143,9 +151,10 @@ module _ (t : ℕ) where
 
   returns-3 : carry-lts.Need-returns-3 (told t) (at t) carry.Post
   returns-3 c =
-      let node = c .before .before .before .before .before .before .before .before .before in
+      let at-carry = c .before .before .before .before .before .before in
+      let node = at-carry .before .before .before in
       let start = start-of node in
-      full-lo _ _ _ _ _ _ (start .pre .1) (two node) _ _ _ (node .before .before .before .before .var-of .ensures) (node .before .before .low-link-of .ensures) (node .high-link-of .ensures) (unknown node) (subst (λ z. Carries (start .args .work .now) (c .before .before .before .before .before .before .carry .last .0) (start .args .out .now) (c .before .before .before .before .before .before .carry .last .1 .0) (start .args .goal) (start .args .count) (start .args .made) (node .before .before .low-link-of .result .0) z) (c .enum-told2 .given .1) (c .before .before .before .before .before .before .carry .ensures))
+      full-lo _ _ _ _ _ _ (start .pre .1) (two node) _ _ _ (node .before .before .before .before .var-of .ensures) (node .before .before .low-link-of .ensures) (node .high-link-of .ensures) (unknown node) (subst (λ z. Carries (start .args .work .now) (at-carry .carry .last .0) (start .args .out .now) (at-carry .carry .last .1 .0) (start .args .goal) (start .args .count) (start .args .made) (node .before .before .low-link-of .result .0) z) (c .enum-told2 .given .1) (at-carry .carry .ensures))
 
   carry-requires-2 : carry-lts.Need-carry-requires-2 (told t) (at t) carry.Post
   carry-requires-2 c κs =
@@ -168,10 +177,11 @@ module _ (t : ℕ) where
 
   returns-4 : carry-lts.Need-returns-4 (told t) (at t) carry.Post
   returns-4 c =
-      let low = c .before .before .before .before .before .before .before .before .before in
+      let at-carry2 = c .before .before .before .before .before .before in
+      let low = at-carry2 .before .before .before in
       let node = node-of low in
       let start = start-of node in
-      full-hi _ _ _ _ _ _ (start .pre .1) (two node) _ _ _ (node .before .before .before .before .var-of .ensures) (node .before .before .low-link-of .ensures) (node .high-link-of .ensures) (unknown node) _ _ _ _ (low .before .before .before .before .before .before .before .carry .kept .0) (low .before .before .before .before .before .before .before .carry .kept .1 .0) (low-is low) (subst (λ z. Carries (low .before .before .before .before .before .before .before .carry .last .0) (c .before .before .before .before .before .before .carry2 .last .0) (low .before .before .before .before .before .before .before .carry .last .1 .0) (c .before .before .before .before .before .before .carry2 .last .1 .0) (start .args .goal) (start .args .count) (low .before .lo .given .0 .1 .0) (node .high-link-of .result .0) z) (c .enum-told3 .given .1) (c .before .before .before .before .before .before .carry2 .ensures))
+      full-hi _ _ _ _ _ _ (start .pre .1) (two node) _ _ _ (node .before .before .before .before .var-of .ensures) (node .before .before .low-link-of .ensures) (node .high-link-of .ensures) (unknown node) _ _ _ _ (low .before .before .before .before .before .before .before .carry .kept .0) (low .before .before .before .before .before .before .before .carry .kept .1 .0) (low-is low) (subst (λ z. Carries (low .before .before .before .before .before .before .before .carry .last .0) (at-carry2 .carry2 .last .0) (low .before .before .before .before .before .before .before .carry .last .1 .0) (at-carry2 .carry2 .last .1 .0) (start .args .goal) (start .args .count) (low .before .lo .given .0 .1 .0) (node .high-link-of .result .0) z) (c .enum-told3 .given .1) (at-carry2 .carry2 .ensures))
 
   push-node-requires : carry-lts.Need-push-node-requires (told t) (at t) carry.Post
   push-node-requires c κs =
@@ -195,11 +205,12 @@ module _ (t : ℕ) where
 
   returns-5 : carry-lts.Need-returns-5 (told t) (at t) carry.Post
   returns-5 c =
-      let high = c .before .before .before .before .before .before in
+      let at-push-node = c .before .before .before .before in
+      let high = at-push-node .before .before in
       let low = low-of high in
       let node = node-of low in
       let start = start-of node in
-      full-node _ _ _ _ _ _ (start .pre .1) (two node) _ _ _ (node .before .before .before .before .var-of .ensures) (node .before .before .low-link-of .ensures) (node .high-link-of .ensures) (unknown node) _ _ _ _ (low .before .before .before .before .before .before .before .carry .kept .0) (low .before .before .before .before .before .before .before .carry .kept .1 .0) (low-is low) _ _ _ _ (high .before .before .before .before .before .before .before .carry2 .kept .0) (high .before .before .before .before .before .before .before .carry2 .kept .1 .0) (high-is high) (subst (λ z. Answers (pushed (high .before .before .before .before .before .before .before .carry2 .last .1 .0) (high .before .hi .given .0 .1 .0) (node .before .before .before .before .var-of .result .0) (low .before .lo .given .0 .0 .0) (high .before .hi .given .0 .0 .0)) (start .args .goal .room) (c .before .before .before .before .push-node .last .0) z) (c .enum-told4 .given .1) (c .before .before .before .before .push-node .ensures .0))
+      full-node _ _ _ _ _ _ (start .pre .1) (two node) _ _ _ (node .before .before .before .before .var-of .ensures) (node .before .before .low-link-of .ensures) (node .high-link-of .ensures) (unknown node) _ _ _ _ (low .before .before .before .before .before .before .before .carry .kept .0) (low .before .before .before .before .before .before .before .carry .kept .1 .0) (low-is low) _ _ _ _ (high .before .before .before .before .before .before .before .carry2 .kept .0) (high .before .before .before .before .before .before .before .carry2 .kept .1 .0) (high-is high) (subst (λ z. Answers (pushed (high .before .before .before .before .before .before .before .carry2 .last .1 .0) (high .before .hi .given .0 .1 .0) (node .before .before .before .before .var-of .result .0) (low .before .lo .given .0 .0 .0) (high .before .hi .given .0 .0 .0)) (start .args .goal .room) (at-push-node .push-node .last .0) z) (c .enum-told4 .given .1) (at-push-node .push-node .ensures .0))
 
   keep-requires : carry-lts.Need-keep-requires (told t) (at t) carry.Post
   keep-requires c κs =
@@ -226,12 +237,13 @@ module _ (t : ℕ) where
 
   returns-6 : carry-lts.Need-returns-6 (told t) (at t) carry.Post
   returns-6 c =
-      let made = c .before .before .before .before in
+      let at-keep = c .before .before in
+      let made = at-keep .before .before in
       let high = high-of made in
       let low = low-of high in
       let node = node-of low in
       let start = start-of node in
-      done _ _ _ _ _ _ (start .pre .1) (two node) _ _ _ (node .before .before .before .before .var-of .ensures) (node .before .before .low-link-of .ensures) (node .high-link-of .ensures) (unknown node) _ _ _ _ (low .before .before .before .before .before .before .before .carry .kept .0) (low .before .before .before .before .before .before .before .carry .kept .1 .0) (low-is low) _ _ _ _ (high .before .before .before .before .before .before .before .carry2 .kept .0) (high .before .before .before .before .before .before .before .carry2 .kept .1 .0) (high-is high) (made .before .before .before .before .before .push-node .last .0) _ _ (node-is made) (c .before .before .keep .last .0) (c .before .before .keep .ensures)
+      done _ _ _ _ _ _ (start .pre .1) (two node) _ _ _ (node .before .before .before .before .var-of .ensures) (node .before .before .low-link-of .ensures) (node .high-link-of .ensures) (unknown node) _ _ _ _ (low .before .before .before .before .before .before .before .carry .kept .0) (low .before .before .before .before .before .before .before .carry .kept .1 .0) (low-is low) _ _ _ _ (high .before .before .before .before .before .before .before .carry2 .kept .0) (high .before .before .before .before .before .before .before .carry2 .kept .1 .0) (high-is high) (made .before .before .before .before .before .push-node .last .0) _ _ (node-is made) (at-keep .keep .last .0) (at-keep .keep .ensures)
 
 pub +carry-spec : {M : Type 1} → statement M
 +carry-spec = close μ (λ t. carry-lts.spec (told t) (at t) carry.Post (returns t) (recall-requires t) (enum-known-known t) (same-length t) (returns-2 t) (enum-told t) (var-of-requires t) (low-link-of-requires t) (high-link-of-requires t) (carry-requires t) (enum-known-lo t) (enum-told-2 t) (same-length-2 t) (same-length-3 t) (returns-3 t) (carry-requires-2 t) (enum-known-hi t) (enum-told-3 t) (same-length-4 t) (same-length-5 t) (returns-4 t) (push-node-requires t) (enum-known-noted t) (enum-told-4 t) (same-length-6 t) (same-length-7 t) (returns-5 t) (keep-requires t) (same-length-8 t) (same-length-9 t) (returns-6 t))

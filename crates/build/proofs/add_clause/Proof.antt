@@ -24,18 +24,21 @@ same-length c = search needs
 
 returns : tie.Need-returns
 returns c =
-    let g = c .before .before .before .before .before .before .before .before in
+    let at-put = c .before .before .before .before in
+    let g = at-put .before .before .before .before in
     add-full _ _ _ _ _ _ (g .pre)
-    (subst (λ z. Puts (g .args .work .now) (c .before .before .before .before .put .last .0) (g .args .job) 0 (g .args .count) (g .args .p .0) false z) (c .enum-told .given .1) (c .before .before .before .before .put .ensures))
+    (subst (λ z. Puts (g .args .work .now) (at-put .put .last .0) (g .args .job) 0 (g .args .count) (g .args .p .0) false z) (c .enum-told .given .1) (at-put .put .ensures))
 
 same-length-2 : tie.Need-same-length-2
 same-length-2 c = search needs
 
 returns-2 : tie.Need-returns-2
 returns-2 c =
-    let g = c .before .before .before .before .before .before .before .before .before .before in
-    add-small _ _ _ _ _ _ (g .pre) _ _ _ (c .before .before .before .before .before .before .put .kept .0)
-    (subst (λ z. Puts (g .args .work .now) (c .before .before .before .before .before .before .put .last .0) (g .args .job) 0 (g .args .count) (g .args .p .0) false z) (c .before .before .noted .given .1) (c .before .before .before .before .before .before .put .ensures))
+    let at-noted = c .before .before in
+    let at-put = at-noted .before .before .before .before in
+    let g = at-put .before .before .before .before in
+    add-small _ _ _ _ _ _ (g .pre) _ _ _ (at-put .put .kept .0)
+    (subst (λ z. Puts (g .args .work .now) (at-put .put .last .0) (g .args .job) 0 (g .args .count) (g .args .p .0) false z) (at-noted .noted .given .1) (at-put .put .ensures))
     (c .if1 .taken)
 
 add-t17 : tie.Need-add-t17
@@ -43,9 +46,11 @@ add-t17 c = search needs
 
 compact-requires : tie.Need-compact-requires
 compact-requires c κs =
-    let g = c .before .before .before .before .before .before .before .before .before .before .before .before .before in
-    compacting _ _ _ _ _ _ (g .pre) _ _ _ (c .before .before .before .before .before .before .before .before .before .put .kept .0)
-    (subst (λ z. Puts (g .args .work .now) (c .before .before .before .before .before .before .before .before .before .put .last .0) (g .args .job) 0 (g .args .count) (g .args .p .0) false z) (c .before .before .before .before .before .noted .given .1) (c .before .before .before .before .before .before .before .before .before .put .ensures))
+    let at-noted = c .before .before .before .before .before in
+    let at-put = at-noted .before .before .before .before in
+    let g = at-put .before .before .before .before in
+    compacting _ _ _ _ _ _ (g .pre) _ _ _ (at-put .put .kept .0)
+    (subst (λ z. Puts (g .args .work .now) (at-put .put .last .0) (g .args .job) 0 (g .args .count) (g .args .p .0) false z) (at-noted .noted .given .1) (at-put .put .ensures))
     _ refl refl refl refl
 
 enum-known-own : tie.Need-enum-known-own
@@ -62,11 +67,14 @@ same-length-4 c = search needs
 
 returns-3 : tie.Need-returns-3
 returns-3 c =
-    let g = c .before .before .before .before .before .before .before .before .before .before .before .before .before .before .before .before .before .before .before .before in
-    add-over _ _ _ _ _ _ (g .pre) _ _ _ (c .before .before .before .before .before .before .before .before .before .before .before .before .before .before .before .before .put .kept .0)
-    (subst (λ z. Puts (g .args .work .now) (c .before .before .before .before .before .before .before .before .before .before .before .before .before .before .before .before .put .last .0) (g .args .job) 0 (g .args .count) (g .args .p .0) false z) (c .before .before .before .before .before .before .before .before .before .before .before .before .noted .given .1) (c .before .before .before .before .before .before .before .before .before .before .before .before .before .before .before .before .put .ensures))
+    let at-compact = c .before .before .before .before .before .before in
+    let at-noted = at-compact .before .before .before .before .before .before in
+    let at-put = at-noted .before .before .before .before in
+    let g = at-put .before .before .before .before in
+    add-over _ _ _ _ _ _ (g .pre) _ _ _ (at-put .put .kept .0)
+    (subst (λ z. Puts (g .args .work .now) (at-put .put .last .0) (g .args .job) 0 (g .args .count) (g .args .p .0) false z) (at-noted .noted .given .1) (at-put .put .ensures))
     (record { n = g .args .job .n; stamp = g .args .job .stamp + 1; cap = g .args .job .cap; room = g .args .room }) refl refl refl refl
-    (subst (λ z. Compacts (c .before .before .before .before .before .before .before .before .before .before .before .before .before .before .before .before .put .last .0) (c .before .before .before .before .before .before .compact .last .0) (record { n = g .args .job .n; stamp = g .args .job .stamp + 1; cap = g .args .job .cap; room = g .args .room }) (c .before .before .before .before .before .before .before .before .before .before .before .before .noted .given .0 .1 .0) (c .before .before .before .before .before .before .before .before .before .before .before .before .noted .given .0 .0 .0) z) (c .enum-told2 .given .1) (c .before .before .before .before .before .before .compact .ensures))
+    (subst (λ z. Compacts (at-put .put .last .0) (at-compact .compact .last .0) (record { n = g .args .job .n; stamp = g .args .job .stamp + 1; cap = g .args .job .cap; room = g .args .room }) (at-noted .noted .given .0 .1 .0) (at-noted .noted .given .0 .0 .0) z) (c .enum-told2 .given .1) (at-compact .compact .ensures))
 
 same-length-5 : tie.Need-same-length-5
 same-length-5 c = search needs
@@ -76,11 +84,14 @@ same-length-6 c = search needs
 
 returns-4 : tie.Need-returns-4
 returns-4 c =
-    let g = c .before .before .before .before .before .before .before .before .before .before .before .before .before .before .before .before .before .before .before .before .before in
-    add-done _ _ _ _ _ _ (g .pre) _ _ _ (c .before .before .before .before .before .before .before .before .before .before .before .before .before .before .before .before .before .put .kept .0)
-    (subst (λ z. Puts (g .args .work .now) (c .before .before .before .before .before .before .before .before .before .before .before .before .before .before .before .before .before .put .last .0) (g .args .job) 0 (g .args .count) (g .args .p .0) false z) (c .before .before .before .before .before .before .before .before .before .before .before .before .before .noted .given .1) (c .before .before .before .before .before .before .before .before .before .before .before .before .before .before .before .before .before .put .ensures))
+    let at-compact = c .before .before .before .before .before .before .before in
+    let at-noted = at-compact .before .before .before .before .before .before in
+    let at-put = at-noted .before .before .before .before in
+    let g = at-put .before .before .before .before in
+    add-done _ _ _ _ _ _ (g .pre) _ _ _ (at-put .put .kept .0)
+    (subst (λ z. Puts (g .args .work .now) (at-put .put .last .0) (g .args .job) 0 (g .args .count) (g .args .p .0) false z) (at-noted .noted .given .1) (at-put .put .ensures))
     (record { n = g .args .job .n; stamp = g .args .job .stamp + 1; cap = g .args .job .cap; room = g .args .room }) refl refl refl refl _ _ _
-    (subst (λ z. Compacts (c .before .before .before .before .before .before .before .before .before .before .before .before .before .before .before .before .before .put .last .0) (c .before .before .before .before .before .before .before .compact .last .0) (record { n = g .args .job .n; stamp = g .args .job .stamp + 1; cap = g .args .job .cap; room = g .args .room }) (c .before .before .before .before .before .before .before .before .before .before .before .before .before .noted .given .0 .1 .0) (c .before .before .before .before .before .before .before .before .before .before .before .before .before .noted .given .0 .0 .0) z) (c .before .own .given .1) (c .before .before .before .before .before .before .before .compact .ensures))
+    (subst (λ z. Compacts (at-put .put .last .0) (at-compact .compact .last .0) (record { n = g .args .job .n; stamp = g .args .job .stamp + 1; cap = g .args .job .cap; room = g .args .room }) (at-noted .noted .given .0 .1 .0) (at-noted .noted .given .0 .0 .0) z) (c .before .own .given .1) (at-compact .compact .ensures))
 
 pub add-clause-spec : {M : Type 1} → statement M
 add-clause-spec =

@@ -37,8 +37,9 @@ clear-requires c κs =
 
 put-constants-requires : tie.Need-put-constants-requires Inv-loop μ-loop
 put-constants-requires c κs =
-    let g = c .before .before .before .before .before .before .before .before in
-    omega (arith, g .pre .0 .long, g .pre .0 .some, c .before .before .before .clear .kept .0)
+    let at-clear = c .before .before .before in
+    let g = at-clear .before .before .before .before .before in
+    omega (arith, g .pre .0 .long, g .pre .0 .some, at-clear .clear .kept .0)
 
 sub-t29 : tie.Need-sub-t29 Inv-loop μ-loop
 sub-t29 c =
@@ -47,8 +48,10 @@ sub-t29 c =
 
 loop-holds : tie.Need-loop-holds Inv-loop μ-loop
 loop-holds c =
-    let g = c .before .before .before .before .before .before .before .before .before .before .before in
-    (omega arith, refl, refl, starts _ _ _ _ _ _ _ (g .pre .0) (c .before .before .before .before .before .before .clear .last .0) (c .before .before .put-constants .last .0) (c .before .before .before .before .before .before .clear .ensures) (c .before .before .put-constants .ensures .0) (c .before .before .put-constants .ensures .1))
+    let at-put-constants = c .before .before in
+    let at-clear = at-put-constants .before .before .before .before in
+    let g = at-clear .before .before .before .before .before in
+    (omega arith, refl, refl, starts _ _ _ _ _ _ _ (g .pre .0) (at-clear .clear .last .0) (at-put-constants .put-constants .last .0) (at-clear .clear .ensures) (at-put-constants .put-constants .ensures .0) (at-put-constants .put-constants .ensures .1))
 
 clause-at-requires : tie.Need-clause-at-requires Inv-loop μ-loop
 clause-at-requires c κs =
@@ -64,8 +67,12 @@ add-t32 c = search needs
 
 add-clause-requires : tie.Need-add-clause-requires Inv-loop μ-loop
 add-clause-requires c κs =
-    let g = c .before .before .before .before .before .before .before .before .before .before .before .before .before .before .before .before in
-    adding _ _ _ _ _ _ _ (g .pre .0) (c .before .before .before .before .loop .out) (c .before .before .before .before .loop .work) (c .before .before .before .before .loop .root .0) (c .before .before .before .before .loop .held) (c .before .before .before .before .loop .i) (c .before .before .before .before .loop .inv .3) (c .before .before .clause-at .result .fixed) (c .before .before .clause-at .result .values) (c .before .before .clause-at .ensures .0) (c .before .before .clause-at .ensures .1) (search needs) (c .before .before .before .before .loop .inv .1) (c .before .before .before .before .loop .inv .2 ∙ c .before .before .before .before .before .before .before .put-constants .kept .0 ∙ c .before .before .before .before .before .before .before .before .before .before .before .clear .kept .0)
+    let at-clause-at = c .before .before in
+    let at-loop = at-clause-at .before .before in
+    let at-put-constants = at-loop .before .before .before in
+    let at-clear = at-put-constants .before .before .before .before in
+    let g = at-clear .before .before .before .before .before in
+    adding _ _ _ _ _ _ _ (g .pre .0) (at-loop .loop .out) (at-loop .loop .work) (at-loop .loop .root .0) (at-loop .loop .held) (at-loop .loop .i) (at-loop .loop .inv .3) (at-clause-at .clause-at .result .fixed) (at-clause-at .clause-at .result .values) (at-clause-at .clause-at .ensures .0) (at-clause-at .clause-at .ensures .1) (search needs) (at-loop .loop .inv .1) (at-loop .loop .inv .2 ∙ at-put-constants .put-constants .kept .0 ∙ at-clear .clear .kept .0)
 
 enum-known-grown : tie.Need-enum-known-grown Inv-loop μ-loop
 enum-known-grown c = search needs
@@ -87,23 +94,30 @@ same-length-2 c = search needs
 
 returns : tie.Need-returns Inv-loop μ-loop
 returns c =
-    let g = c .before .before .before .before .before .before .before .before .before .before .before .before .before .before .before .before .before .before .before .before .before .before .before in
-    refused _ _ _ _ _ _ _ (g .pre .0) (c .before .before .before .before .before .before .before .before .before .before .before .loop .out) (c .before .before .before .before .before .before .before .before .before .before .before .loop .work) (c .before .before .before .before .before .before .before .before .before .before .before .loop .root .0) (c .before .before .before .before .before .before .before .before .before .before .before .loop .held) (c .before .before .before .before .before .before .before .before .before .before .before .loop .i) (c .before .before .before .before .before .before .before .before .before .before .before .loop .inv .3) (c .before .before .before .before .before .before .before .before .before .clause-at .result .fixed) (c .before .before .before .before .before .before .before .before .before .clause-at .result .values) (c .before .before .before .before .before .before .before .before .before .clause-at .ensures .0) (c .before .before .before .before .before .before .before .before .before .clause-at .ensures .1) (search needs)
-    (subst (λ z. Adds (c .before .before .before .before .before .before .before .before .before .before .before .loop .work) (c .before .before .before .before .before .before .add-clause .last .0) (record { n = g .args .n; fixed = c .before .before .before .before .before .before .before .before .before .clause-at .result .fixed; values = c .before .before .before .before .before .before .before .before .before .clause-at .result .values; term = g .args .term; stamp = 2 * c .before .before .before .before .before .before .before .before .before .before .before .loop .i + 1; cap = 2 * g .args .room }) (g .args .room) (c .before .before .before .before .before .before .before .before .before .before .before .loop .held) (c .before .before .before .before .before .before .before .before .before .before .before .loop .root .0) z) (c .enum-told .given .1) (c .before .before .before .before .before .before .add-clause .ensures))
+    let at-add-clause = c .before .before .before .before .before .before in
+    let at-clause-at = at-add-clause .before .before .before in
+    let at-loop = at-clause-at .before .before in
+    let g = at-loop .before .before .before .before .before .before .before .before .before .before .before .before in
+    refused _ _ _ _ _ _ _ (g .pre .0) (at-loop .loop .out) (at-loop .loop .work) (at-loop .loop .root .0) (at-loop .loop .held) (at-loop .loop .i) (at-loop .loop .inv .3) (at-clause-at .clause-at .result .fixed) (at-clause-at .clause-at .result .values) (at-clause-at .clause-at .ensures .0) (at-clause-at .clause-at .ensures .1) (search needs)
+    (subst (λ z. Adds (at-loop .loop .work) (at-add-clause .add-clause .last .0) (record { n = g .args .n; fixed = at-clause-at .clause-at .result .fixed; values = at-clause-at .clause-at .result .values; term = g .args .term; stamp = 2 * at-loop .loop .i + 1; cap = 2 * g .args .room }) (g .args .room) (at-loop .loop .held) (at-loop .loop .root .0) z) (c .enum-told .given .1) (at-add-clause .add-clause .ensures))
 
 add-i : tie.Need-add-i Inv-loop μ-loop
 add-i c =
-    let g = c .before .before .before .before .before .before .before .before .before .before .before .before .before .before .before .before .before .before .before .before .before .before .before .before in
-    record { fits = omega (arith, c .before .before .before .before .before .before .before .before .before .before .before .loop-test .taken, g .pre .0 .count) }
+    let at-loop-test = c .before .before .before .before .before .before .before .before .before .before .before in
+    let g = at-loop-test .before .before .before .before .before .before .before .before .before .before .before .before .before in
+    record { fits = omega (arith, at-loop-test .loop-test .taken, g .pre .0 .count) }
 
 loop-less : tie.Need-loop-less Inv-loop μ-loop
 loop-less c = search needs
 
 loop-again : tie.Need-loop-again Inv-loop μ-loop
 loop-again c =
-    let g = c .before .before .before .before .before .before .before .before .before .before .before .before .before .before .before .before .before .before .before .before .before .before .before .before in
-    let u = (subst (λ z. Adds (c .before .before .before .before .before .before .before .before .before .before .before .before .loop .work) (c .before .before .before .before .before .before .before .add-clause .last .0) (record { n = g .args .n; fixed = c .before .before .before .before .before .before .before .before .before .before .clause-at .result .fixed; values = c .before .before .before .before .before .before .before .before .before .before .clause-at .result .values; term = g .args .term; stamp = 2 * c .before .before .before .before .before .before .before .before .before .before .before .before .loop .i + 1; cap = 2 * g .args .room }) (g .args .room) (c .before .before .before .before .before .before .before .before .before .before .before .before .loop .held) (c .before .before .before .before .before .before .before .before .before .before .before .before .loop .root .0) z) (c .before .grown .given .1) (c .before .before .before .before .before .before .before .add-clause .ensures)) in
-    (search needs, c .before .before .before .before .before .before .before .add-clause .kept .1 .0 ∙ c .before .before .before .before .before .before .before .before .before .before .before .before .loop .inv .1, c .before .before .before .before .before .before .before .add-clause .kept .0 ∙ c .before .before .before .before .before .before .before .before .before .before .before .before .loop .inv .2, goes-on _ _ _ _ _ _ _ (g .pre .0) (c .before .before .before .before .before .before .before .before .before .before .before .before .loop .out) (c .before .before .before .before .before .before .before .before .before .before .before .before .loop .work) (c .before .before .before .before .before .before .before .before .before .before .before .before .loop .root .0) (c .before .before .before .before .before .before .before .before .before .before .before .before .loop .held) (c .before .before .before .before .before .before .before .before .before .before .before .before .loop .i) (c .before .before .before .before .before .before .before .before .before .before .before .before .loop .inv .3) (c .before .before .before .before .before .before .before .before .before .before .clause-at .result .fixed) (c .before .before .before .before .before .before .before .before .before .before .clause-at .result .values) (c .before .before .before .before .before .before .before .before .before .before .clause-at .ensures .0) (c .before .before .before .before .before .before .before .before .before .before .clause-at .ensures .1) (c .before .before .before .before .before .before .before .add-clause .last .0) _ _ u)
+    let at-add-clause = c .before .before .before .before .before .before .before in
+    let at-clause-at = at-add-clause .before .before .before in
+    let at-loop = at-clause-at .before .before in
+    let g = at-loop .before .before .before .before .before .before .before .before .before .before .before .before in
+    let u = (subst (λ z. Adds (at-loop .loop .work) (at-add-clause .add-clause .last .0) (record { n = g .args .n; fixed = at-clause-at .clause-at .result .fixed; values = at-clause-at .clause-at .result .values; term = g .args .term; stamp = 2 * at-loop .loop .i + 1; cap = 2 * g .args .room }) (g .args .room) (at-loop .loop .held) (at-loop .loop .root .0) z) (c .before .grown .given .1) (at-add-clause .add-clause .ensures)) in
+    (search needs, at-add-clause .add-clause .kept .1 .0 ∙ at-loop .loop .inv .1, at-add-clause .add-clause .kept .0 ∙ at-loop .loop .inv .2, goes-on _ _ _ _ _ _ _ (g .pre .0) (at-loop .loop .out) (at-loop .loop .work) (at-loop .loop .root .0) (at-loop .loop .held) (at-loop .loop .i) (at-loop .loop .inv .3) (at-clause-at .clause-at .result .fixed) (at-clause-at .clause-at .result .values) (at-clause-at .clause-at .ensures .0) (at-clause-at .clause-at .ensures .1) (at-add-clause .add-clause .last .0) _ _ u)
 
 mul-t29 : tie.Need-mul-t29 Inv-loop μ-loop
 mul-t29 c = search needs
@@ -113,8 +127,11 @@ add-t39 c = search needs
 
 export-requires : tie.Need-export-requires Inv-loop μ-loop
 export-requires c κs =
-    let g = c .before .before .before .before .before .before .before .before .before .before .before .before .before .before .before in
-    exporting _ _ _ _ _ _ _ (g .pre .0) (c .before .before .before .loop .out) (c .before .before .before .loop .work) (c .before .before .before .loop .root .0) (c .before .before .before .loop .held) (c .before .before .before .loop .i) (c .before .before .before .loop .inv .3) (search needs) (c .before .before .before .loop .inv .1) (c .before .before .before .loop .inv .2 ∙ c .before .before .before .before .before .before .put-constants .kept .0 ∙ c .before .before .before .before .before .before .before .before .before .before .clear .kept .0)
+    let at-loop = c .before .before .before in
+    let at-put-constants = at-loop .before .before .before in
+    let at-clear = at-put-constants .before .before .before .before in
+    let g = at-clear .before .before .before .before .before in
+    exporting _ _ _ _ _ _ _ (g .pre .0) (at-loop .loop .out) (at-loop .loop .work) (at-loop .loop .root .0) (at-loop .loop .held) (at-loop .loop .i) (at-loop .loop .inv .3) (search needs) (at-loop .loop .inv .1) (at-loop .loop .inv .2 ∙ at-put-constants .put-constants .kept .0 ∙ at-clear .clear .kept .0)
 
 cast-t26 : tie.Need-cast-t26 Inv-loop μ-loop
 cast-t26 c = search needs
@@ -127,8 +144,10 @@ same-length-4 c = search needs
 
 returns-2 : tie.Need-returns-2 Inv-loop μ-loop
 returns-2 c =
-    let g = c .before .before .before .before .before .before .before .before .before .before .before .before .before .before .before .before .before .before .before .before in
-    counted _ _ _ _ _ _ _ (g .pre .0) (c .before .before .before .before .before .before .before .before .loop .out) (c .before .before .before .before .before .before .before .before .loop .work) (c .before .before .before .before .before .before .before .before .loop .root .0) (c .before .before .before .before .before .before .before .before .loop .held) (c .before .before .before .before .before .before .before .before .loop .i) (c .before .before .before .before .before .before .before .before .loop .inv .3) (search needs) (c .before .before .before .before .export .last .1 .0) (c .before .before .before .before .export .result) (c .before .before .before .before .export .ensures)
+    let at-export = c .before .before .before .before in
+    let at-loop = at-export .before .before .before .before in
+    let g = at-loop .before .before .before .before .before .before .before .before .before .before .before .before in
+    counted _ _ _ _ _ _ _ (g .pre .0) (at-loop .loop .out) (at-loop .loop .work) (at-loop .loop .root .0) (at-loop .loop .held) (at-loop .loop .i) (at-loop .loop .inv .3) (search needs) (at-export .export .last .1 .0) (at-export .export .result) (at-export .export .ensures)
 
 pub build-spec : {M : Type 1} → statement M
 build-spec =

@@ -12,8 +12,9 @@ put-constants-requires c κs = search needs
 
 carry-requires : tie.Need-carry-requires
 carry-requires c κs =
-    let g = c .before .before .before .before .before .before .before .before in
-    carrying _ _ _ _ _ (g .pre) (c .before .before .before .before .put-constants .last .0) (c .before .before .before .before .put-constants .ensures .0) (c .before .before .before .before .put-constants .kept .0)
+    let at-put-constants = c .before .before .before .before in
+    let g = at-put-constants .before .before .before .before in
+    carrying _ _ _ _ _ (g .pre) (at-put-constants .put-constants .last .0) (at-put-constants .put-constants .ensures .0) (at-put-constants .put-constants .kept .0)
 
 enum-known-noted : tie.Need-enum-known-noted
 enum-known-noted c = search needs
@@ -29,21 +30,30 @@ same-length-2 c = search needs
 
 returns : tie.Need-returns
 returns c =
-    let g = c .before .before .before .before .before .before .before .before .before .before .before .before .before .before .before in
-    compact-full _ _ _ _ _ (g .pre) (c .before .before .before .before .before .before .before .before .before .before .before .put-constants .last .0) (c .before .before .before .before .before .before .before .before .before .before .before .put-constants .ensures .0) (c .before .before .before .before .before .before .before .before .before .before .before .put-constants .kept .0)
-    (subst (λ z. Carries (g .args .work .now) (c .before .before .before .before .before .before .carry .last .0) (c .before .before .before .before .before .before .before .before .before .before .before .put-constants .last .0) (c .before .before .before .before .before .before .carry .last .1 .0) (g .args .goal) (g .args .count) 2 (g .args .p .0) z) (c .enum-told .given .1) (c .before .before .before .before .before .before .carry .ensures))
+    let at-carry = c .before .before .before .before .before .before in
+    let at-put-constants = at-carry .before .before .before .before .before in
+    let g = at-put-constants .before .before .before .before in
+    compact-full _ _ _ _ _ (g .pre) (at-put-constants .put-constants .last .0) (at-put-constants .put-constants .ensures .0) (at-put-constants .put-constants .kept .0)
+    (subst (λ z. Carries (g .args .work .now) (at-carry .carry .last .0) (at-put-constants .put-constants .last .0) (at-carry .carry .last .1 .0) (g .args .goal) (g .args .count) 2 (g .args .p .0) z) (c .enum-told .given .1) (at-carry .carry .ensures))
 
 copy-nodes-requires : tie.Need-copy-nodes-requires
 copy-nodes-requires c κs =
-    let g = c .before .before .before .before .before .before .before .before .before .before .before .before .before .before .before .before .before .before in
-    let u = subst (λ z. Carries (g .args .work .now) (c .before .before .before .before .before .before .before .before .before .carry .last .0) (c .before .before .before .before .before .before .before .before .before .before .before .before .before .before .put-constants .last .0) (c .before .before .before .before .before .before .before .before .before .carry .last .1 .0) (g .args .goal) (g .args .count) 2 (g .args .p .0) z) (c .before .before .before .noted .given .1) (c .before .before .before .before .before .before .before .before .before .carry .ensures) in
-    (omega (arith, u .holds .fits, g .pre .cap, g .pre .long, c .before .before .before .before .before .before .before .before .before .carry .kept .0), omega (arith, u .holds .fits, g .pre .wide, c .before .before .before .before .before .before .before .before .before .carry .kept .1 .0, c .before .before .before .before .before .before .before .before .before .before .before .before .before .before .put-constants .kept .0))
+    let at-noted = c .before .before .before in
+    let at-carry = at-noted .before .before .before .before .before .before in
+    let at-put-constants = at-carry .before .before .before .before .before in
+    let g = at-put-constants .before .before .before .before in
+    let u = subst (λ z. Carries (g .args .work .now) (at-carry .carry .last .0) (at-put-constants .put-constants .last .0) (at-carry .carry .last .1 .0) (g .args .goal) (g .args .count) 2 (g .args .p .0) z) (at-noted .noted .given .1) (at-carry .carry .ensures) in
+    (omega (arith, u .holds .fits, g .pre .cap, g .pre .long, at-carry .carry .kept .0), omega (arith, u .holds .fits, g .pre .wide, at-carry .carry .kept .1 .0, at-put-constants .put-constants .kept .0))
 
 index-nodes-requires : tie.Need-index-nodes-requires
 index-nodes-requires c κs =
-    let g = c .before .before .before .before .before .before .before .before .before .before .before .before .before .before .before .before .before .before .before .before .before .before in
-    let u = subst (λ z. Carries (g .args .work .now) (c .before .before .before .before .before .before .before .before .before .before .before .before .before .carry .last .0) (c .before .before .before .before .before .before .before .before .before .before .before .before .before .before .before .before .before .before .put-constants .last .0) (c .before .before .before .before .before .before .before .before .before .before .before .before .before .carry .last .1 .0) (g .args .goal) (g .args .count) 2 (g .args .p .0) z) (c .before .before .before .before .before .before .before .noted .given .1) (c .before .before .before .before .before .before .before .before .before .before .before .before .before .carry .ensures) in
-    (omega (arith, g .pre .long, c .before .before .before .copy-nodes .kept .0, c .before .before .before .before .before .before .before .before .before .before .before .before .before .carry .kept .0), m-two _ _ _ _ _ (g .pre) (c .before .before .before .before .before .before .before .before .before .before .before .before .before .before .before .before .before .before .put-constants .last .0) (c .before .before .before .before .before .before .before .before .before .before .before .before .before .before .before .before .before .before .put-constants .ensures .0) (c .before .before .before .before .before .before .before .before .before .before .before .before .before .before .before .before .before .before .put-constants .kept .0) _ _ _ _ u, omega (arith, u .holds .fits, g .pre .cap))
+    let at-copy-nodes = c .before .before .before in
+    let at-noted = at-copy-nodes .before .before .before .before in
+    let at-carry = at-noted .before .before .before .before .before .before in
+    let at-put-constants = at-carry .before .before .before .before .before in
+    let g = at-put-constants .before .before .before .before in
+    let u = subst (λ z. Carries (g .args .work .now) (at-carry .carry .last .0) (at-put-constants .put-constants .last .0) (at-carry .carry .last .1 .0) (g .args .goal) (g .args .count) 2 (g .args .p .0) z) (at-noted .noted .given .1) (at-carry .carry .ensures) in
+    (omega (arith, g .pre .long, at-copy-nodes .copy-nodes .kept .0, at-carry .carry .kept .0), m-two _ _ _ _ _ (g .pre) (at-put-constants .put-constants .last .0) (at-put-constants .put-constants .ensures .0) (at-put-constants .put-constants .kept .0) _ _ _ _ u, omega (arith, u .holds .fits, g .pre .cap))
 
 same-length-3 : tie.Need-same-length-3
 same-length-3 c = search needs
@@ -53,10 +63,15 @@ same-length-4 c = search needs
 
 returns-2 : tie.Need-returns-2
 returns-2 c =
-    let g = c .before .before .before .before .before .before .before .before .before .before .before .before .before .before .before .before .before .before .before .before .before .before .before .before .before in
-    compact-done _ _ _ _ _ (g .pre) (c .before .before .before .before .before .before .before .before .before .before .before .before .before .before .before .before .before .before .before .before .before .put-constants .last .0) (c .before .before .before .before .before .before .before .before .before .before .before .before .before .before .before .before .before .before .before .before .before .put-constants .ensures .0) (c .before .before .before .before .before .before .before .before .before .before .before .before .before .before .before .before .before .before .before .before .before .put-constants .kept .0) _ _ (c .before .before .before .before .before .before .before .before .before .before .noted .given .0 .0 .0) (c .before .before .before .before .before .before .before .before .before .before .noted .given .0 .1 .0)
-    (subst (λ z. Carries (g .args .work .now) (c .before .before .before .before .before .before .before .before .before .before .before .before .before .before .before .before .carry .last .0) (c .before .before .before .before .before .before .before .before .before .before .before .before .before .before .before .before .before .before .before .before .before .put-constants .last .0) (c .before .before .before .before .before .before .before .before .before .before .before .before .before .before .before .before .carry .last .1 .0) (g .args .goal) (g .args .count) 2 (g .args .p .0) z) (c .before .before .before .before .before .before .before .before .before .before .noted .given .1) (c .before .before .before .before .before .before .before .before .before .before .before .before .before .before .before .before .carry .ensures))
-    _ _ (c .before .before .before .before .before .before .copy-nodes .ensures) (c .before .before .index-nodes .ensures)
+    let at-index-nodes = c .before .before in
+    let at-copy-nodes = at-index-nodes .before .before .before .before in
+    let at-noted = at-copy-nodes .before .before .before .before in
+    let at-carry = at-noted .before .before .before .before .before .before in
+    let at-put-constants = at-carry .before .before .before .before .before in
+    let g = at-put-constants .before .before .before .before in
+    compact-done _ _ _ _ _ (g .pre) (at-put-constants .put-constants .last .0) (at-put-constants .put-constants .ensures .0) (at-put-constants .put-constants .kept .0) _ _ (at-noted .noted .given .0 .0 .0) (at-noted .noted .given .0 .1 .0)
+    (subst (λ z. Carries (g .args .work .now) (at-carry .carry .last .0) (at-put-constants .put-constants .last .0) (at-carry .carry .last .1 .0) (g .args .goal) (g .args .count) 2 (g .args .p .0) z) (at-noted .noted .given .1) (at-carry .carry .ensures))
+    _ _ (at-copy-nodes .copy-nodes .ensures) (at-index-nodes .index-nodes .ensures)
 
 pub compact-spec : {M : Type 1} → statement M
 compact-spec =

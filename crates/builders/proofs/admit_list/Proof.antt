@@ -23,7 +23,11 @@ entry-number-requires c κs = search needs
 
 returns-2 : tie.Need-returns-2
 unfolding inspectionReply
-returns-2 c = entry-refused _ _ _ _ _ _ _ (list-sized _ _ _ _ _ _ _ _ (c .before .before .before .before .size-refusal .ensures) (c .before .before .before .if1 .left)) _ _ (c .entry-number .ensures) (c .before .before .first-bad .ensures) (c .before .if2 .taken)
+returns-2 c =
+    let at-first-bad = c .before .before in
+    let at-if1 = at-first-bad .before in
+    let at-size-refusal = at-if1 .before in
+    entry-refused _ _ _ _ _ _ _ (list-sized _ _ _ _ _ _ _ _ (at-size-refusal .size-refusal .ensures) (at-if1 .if1 .left)) _ _ (c .entry-number .ensures) (at-first-bad .first-bad .ensures) (c .before .if2 .taken)
 
 returns-3 : tie.Need-returns-3
 unfolding inspectionReply

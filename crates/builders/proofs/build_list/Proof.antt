@@ -17,8 +17,9 @@ build-requires c κs = search needs
 
 settle-requires : tie.Need-settle-requires
 settle-requires c κs =
-    let g = c .before .before .before .before .before .before .before .before .before .before .before .before in
-    leaves-settling _ _ _ _ (c .before .before .before .before .before .before .build .result) (leaves (g .args .n) (entryAt (g .args .cases) (g .args .n) (g .args .list .now)) (g .args .count) (g .args .term) (g .args .room) (c .before .before .before .before .before .before .build .last .1 .1 .1 .1 .1 .1 .0) (omega (arith, g .pre .0 .wide, c .before .before .before .before .before .before .build .kept .1 .1 .1 .1 .1 .1 .0)) (c .before .before .before .before .before .before .build .result) (c .before .before .before .before .before .before .build .ensures))
+    let at-build = c .before .before .before .before .before .before in
+    let g = at-build .before .before .before .before .before .before in
+    leaves-settling _ _ _ _ (at-build .build .result) (leaves (g .args .n) (entryAt (g .args .cases) (g .args .n) (g .args .list .now)) (g .args .count) (g .args .term) (g .args .room) (at-build .build .last .1 .1 .1 .1 .1 .1 .0) (omega (arith, g .pre .0 .wide, at-build .build .kept .1 .1 .1 .1 .1 .1 .0)) (at-build .build .result) (at-build .build .ensures))
 
 same-length : tie.Need-same-length
 same-length c = search needs
@@ -28,8 +29,10 @@ same-length-2 c = search needs
 
 returns : tie.Need-returns
 returns c =
-    let g = c .before .before .before .before .before .before .before .before .before .before .before .before .before .before .before .before .before in
-    built-outcome _ _ _ _ _ (c .before .before .before .before .before .before .before .before .before .before .before .build .last .1 .1 .1 .1 .1 .1 .0) _ _ (c .before .before .before .before .before .before .before .before .before .before .before .build .last .1 .1 .1 .1 .1 .1 .1 .0) _ _ (c .before .before .before .before .before .before .before .before .before .before .before .build .kept .1 .1 .1 .1 .1 .1 .0) (c .before .before .before .before .before .before .before .before .before .before .before .build .kept .1 .1 .1 .1 .1 .1 .1 .0) (c .before .before .before .before .before .before .before .before .before .before .before .build .result) _ (leaves (g .args .n) (entryAt (g .args .cases) (g .args .n) (g .args .list .now)) (g .args .count) (g .args .term) (g .args .room) (c .before .before .before .before .before .before .before .before .before .before .before .build .last .1 .1 .1 .1 .1 .1 .0) (omega (arith, g .pre .0 .wide, c .before .before .before .before .before .before .before .before .before .before .before .build .kept .1 .1 .1 .1 .1 .1 .0)) (c .before .before .before .before .before .before .before .before .before .before .before .build .result) (c .before .before .before .before .before .before .before .before .before .before .before .build .ensures)) (c .before .before .before .before .settle .ensures)
+    let at-settle = c .before .before .before .before in
+    let at-build = at-settle .before .before .before .before .before .before .before in
+    let g = at-build .before .before .before .before .before .before in
+    built-outcome _ _ _ _ _ (at-build .build .last .1 .1 .1 .1 .1 .1 .0) _ _ (at-build .build .last .1 .1 .1 .1 .1 .1 .1 .0) _ _ (at-build .build .kept .1 .1 .1 .1 .1 .1 .0) (at-build .build .kept .1 .1 .1 .1 .1 .1 .1 .0) (at-build .build .result) _ (leaves (g .args .n) (entryAt (g .args .cases) (g .args .n) (g .args .list .now)) (g .args .count) (g .args .term) (g .args .room) (at-build .build .last .1 .1 .1 .1 .1 .1 .0) (omega (arith, g .pre .0 .wide, at-build .build .kept .1 .1 .1 .1 .1 .1 .0)) (at-build .build .result) (at-build .build .ensures)) (at-settle .settle .ensures)
 
 pub build-list-spec : {M : Type 1} → statement M
 build-list-spec =

@@ -27,8 +27,10 @@ is-bad-requires c κs =
 returns : tie.Need-returns Inv-loop μ-loop
 unfolding firstBadEntry
 returns c =
-    let g = c .before .before .before .before .before in
-    sym (first-is (λ j. not (badEntry (g .args .cases) (g .args .n) (g .args .list .now) j)) _ _ (c .before .before .loop-test .taken) (c .before .before .before .loop .inv .1) (ap not (sym (c .before .is-bad .ensures) ∙ c .if1 .taken)))
+    let at-loop-test = c .before .before in
+    let at-loop = at-loop-test .before in
+    let g = at-loop .before .before in
+    sym (first-is (λ j. not (badEntry (g .args .cases) (g .args .n) (g .args .list .now) j)) _ _ (at-loop-test .loop-test .taken) (at-loop .loop .inv .1) (ap not (sym (c .before .is-bad .ensures) ∙ c .if1 .taken)))
 
 add-i : tie.Need-add-i Inv-loop μ-loop
 add-i c = search needs

@@ -103,10 +103,11 @@ module _ (t : ℕ) where
 
   returns : carry-lts.Need-returns (told t) (at t) carry.Post
   returns c =
-      let d : Parted = c .before .before .before .before .before .before .before .before .before in
+      let at-carry = c .before .before .before .before .before .before in
+      let d : Parted = at-carry .before .before .before in
       let x = start d .args in
       full-lo _ _ _ _ _ _ _ (start d .pre .1) _ (parts d)
-      (carries-full (x .bdd .now) (x .out .now) (c .before .before .before .before .before .before .carry .last .1 .0) (c .before .before .before .before .before .before .carry .last .1 .1 .0) (x .way) (x .count) (x .made) (cut d .low .0) _ (c .before .before .before .before .before .before .carry .ensures) (c .enum-told .given .1))
+      (carries-full (x .bdd .now) (x .out .now) (at-carry .carry .last .1 .0) (at-carry .carry .last .1 .1 .0) (x .way) (x .count) (x .made) (cut d .low .0) _ (at-carry .carry .ensures) (c .enum-told .given .1))
 
   carry-requires-2 : carry-lts.Need-carry-requires-2 (told t) (at t) carry.Post
   carry-requires-2 c κs =
@@ -128,10 +129,11 @@ module _ (t : ℕ) where
 
   returns-2 : carry-lts.Need-returns-2 (told t) (at t) carry.Post
   returns-2 c =
-      let d : Lowered = c .before .before .before .before .before .before .before .before .before in
+      let at-carry2 = c .before .before .before .before .before .before in
+      let d : Lowered = at-carry2 .before .before .before in
       let x = start (first d) .args in
       full-hi _ _ _ _ _ _ _ (start (first d) .pre .1) _ (parts (first d)) _ _ _ _ (lower d .carry .kept .1 .0) (lower d .carry .kept .1 .1 .0) (low-is d)
-      (carries-full (x .bdd .now) (lower d .carry .last .1 .0) (c .before .before .before .before .before .before .carry2 .last .1 .0) (c .before .before .before .before .before .before .carry2 .last .1 .1 .0) (x .way) (x .count) (d .before .lo .given .0 .1 .0) (cut (first d) .high .0) _ (c .before .before .before .before .before .before .carry2 .ensures) (c .enum-told2 .given .1))
+      (carries-full (x .bdd .now) (lower d .carry .last .1 .0) (at-carry2 .carry2 .last .1 .0) (at-carry2 .carry2 .last .1 .1 .0) (x .way) (x .count) (d .before .lo .given .0 .1 .0) (cut (first d) .high .0) _ (at-carry2 .carry2 .ensures) (c .enum-told2 .given .1))
 
   finish-requires : carry-lts.Need-finish-requires (told t) (at t) carry.Post
   finish-requires c κs =
@@ -145,7 +147,9 @@ module _ (t : ℕ) where
 
   returns-3 : carry-lts.Need-returns-3 (told t) (at t) carry.Post
   returns-3 c =
-      carry-done _ _ _ _ _ _ _ (c .before .before .before .before .before .before .before .before .pre .1) _ (split-ends (c .before .before .before .before .before .before .before .before .args .bdd .now) (c .before .before .before .before .before .before .before .before .args .memo .now) (c .before .before .before .before .before .before .before .before .args .way) (c .before .before .before .before .before .before .before .before .args .a .0) _ _ (c .before .step .given .1) (c .before .before .before .split .ensures))
+      let at-split = c .before .before .before in
+      let start = at-split .before .before .before .before .before in
+      carry-done _ _ _ _ _ _ _ (start .pre .1) _ (split-ends (start .args .bdd .now) (start .args .memo .now) (start .args .way) (start .args .a .0) _ _ (c .before .step .given .1) (at-split .split .ensures))
 
   same-length-6 : carry-lts.Need-same-length-6 (told t) (at t) carry.Post
   same-length-6 c = search needs
@@ -155,8 +159,9 @@ module _ (t : ℕ) where
 
   returns-4 : carry-lts.Need-returns-4 (told t) (at t) carry.Post
   returns-4 c =
-      let d : Both = c .before .before .before .before .before .before .before in
-      let f = c .before .before .before .before .finish in
+      let at-finish = c .before .before .before .before in
+      let d : Both = at-finish .before .before .before in
+      let f = at-finish .finish in
       done _ _ _ _ _ _ _ (start (first (second d)) .pre .1) _ (parts (first (second d))) _ _ _ _ (lower (second d) .carry .kept .1 .0) (lower (second d) .carry .kept .1 .1 .0) (low-is (second d)) _ _ _ _ (higher d .carry2 .kept .1 .0) (higher d .carry2 .kept .1 .1 .0) (high-is d)
       (f .last .0) (f .last .1 .0) (f .result) (f .ensures)
 

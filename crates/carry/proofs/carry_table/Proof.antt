@@ -14,9 +14,12 @@ cast-carry c = search needs
 
 carry-requires : tie.Need-carry-requires
 carry-requires c κs =
-    let z = c .before .before .before .before .before .before .before .before .zero-u32-from in
-    let p = c .before .before .before .before .put-constants in
-    begins _ _ _ (c .before .before .before .before .before .before .before .before .before .before .before .before .before .args .way) _ _ (c .before .before .before .before .before .before .before .before .before .before .before .before .before .pre) _ _ (p .kept .0) (z .kept .0) (p .ensures .0) (z .ensures)
+    let at-put-constants = c .before .before .before .before in
+    let at-zero-u32-from = at-put-constants .before .before .before .before in
+    let start = at-zero-u32-from .before .before .before .before .before in
+    let z = at-zero-u32-from .zero-u32-from in
+    let p = at-put-constants .put-constants in
+    begins _ _ _ (start .args .way) _ _ (start .pre) _ _ (p .kept .0) (z .kept .0) (p .ensures .0) (z .ensures)
 
 enum-known-noted : tie.Need-enum-known-noted
 enum-known-noted c = search needs
@@ -32,10 +35,13 @@ same-length-2 c = search needs
 
 returns : tie.Need-returns
 returns c =
-    let s = c .before .before .before .before .before .before .before .before .before .before .before .before .before .before .before .before .before .before .before .before in
-    let z = c .before .before .before .before .before .before .before .before .before .before .before .before .before .before .before .zero-u32-from in
-    let p = c .before .before .before .before .before .before .before .before .before .before .before .put-constants in
-    let k = c .before .before .before .before .before .before .carry in
+    let at-carry = c .before .before .before .before .before .before in
+    let at-put-constants = at-carry .before .before .before .before .before in
+    let at-zero-u32-from = at-put-constants .before .before .before .before in
+    let s = at-zero-u32-from .before .before .before .before .before in
+    let z = at-zero-u32-from .zero-u32-from in
+    let p = at-put-constants .put-constants in
+    let k = at-carry .carry in
     left-over _ _ _ (s .args .way) _ _ (s .pre) (p .last .0) (z .last .0) (p .kept .0) (z .kept .0) (p .ensures .0) (k .last .1 .0) (k .last .1 .1 .0) (k .result) (k .ensures) (c .enum-told .given .1)
 
 same-length-3 : tie.Need-same-length-3
@@ -46,11 +52,15 @@ same-length-4 c = search needs
 
 returns-2 : tie.Need-returns-2
 returns-2 c =
-    let s = c .before .before .before .before .before .before .before .before .before .before .before .before .before .before .before .before .before .before .before .before .before .before .before in
-    let z = c .before .before .before .before .before .before .before .before .before .before .before .before .before .before .before .before .before .before .zero-u32-from in
-    let p = c .before .before .before .before .before .before .before .before .before .before .before .before .before .before .put-constants in
-    let k = c .before .before .before .before .before .before .before .before .before .carry in
-    left-false _ _ _ (s .args .way) _ _ (s .pre) (p .last .0) (z .last .0) (p .kept .0) (z .kept .0) (p .ensures .0) (k .last .1 .0) (k .last .1 .1 .0) (k .result) (k .kept .1 .0) (k .ensures) _ _ (c .before .before .before .noted .given .1) (c .if1 .taken)
+    let at-noted = c .before .before .before in
+    let at-carry = at-noted .before .before .before .before .before .before in
+    let at-put-constants = at-carry .before .before .before .before .before in
+    let at-zero-u32-from = at-put-constants .before .before .before .before in
+    let s = at-zero-u32-from .before .before .before .before .before in
+    let z = at-zero-u32-from .zero-u32-from in
+    let p = at-put-constants .put-constants in
+    let k = at-carry .carry in
+    left-false _ _ _ (s .args .way) _ _ (s .pre) (p .last .0) (z .last .0) (p .kept .0) (z .kept .0) (p .ensures .0) (k .last .1 .0) (k .last .1 .1 .0) (k .result) (k .kept .1 .0) (k .ensures) _ _ (at-noted .noted .given .1) (c .if1 .taken)
 
 cast-t21 : tie.Need-cast-t21
 cast-t21 c = search needs
@@ -63,11 +73,15 @@ same-length-6 c = search needs
 
 returns-3 : tie.Need-returns-3
 returns-3 c =
-    let s = c .before .before .before .before .before .before .before .before .before .before .before .before .before .before .before .before .before .before .before .before .before .before .before in
-    let z = c .before .before .before .before .before .before .before .before .before .before .before .before .before .before .before .before .before .before .zero-u32-from in
-    let p = c .before .before .before .before .before .before .before .before .before .before .before .before .before .before .put-constants in
-    let k = c .before .before .before .before .before .before .before .before .before .carry in
-    left-table _ _ _ (s .args .way) _ _ (s .pre) (p .last .0) (z .last .0) (p .kept .0) (z .kept .0) (p .ensures .0) (k .last .1 .0) (k .last .1 .1 .0) (k .result) (k .kept .1 .0) (k .ensures) _ _ (c .before .before .before .noted .given .1) (c .if1 .left)
+    let at-noted = c .before .before .before in
+    let at-carry = at-noted .before .before .before .before .before .before in
+    let at-put-constants = at-carry .before .before .before .before .before in
+    let at-zero-u32-from = at-put-constants .before .before .before .before in
+    let s = at-zero-u32-from .before .before .before .before .before in
+    let z = at-zero-u32-from .zero-u32-from in
+    let p = at-put-constants .put-constants in
+    let k = at-carry .carry in
+    left-table _ _ _ (s .args .way) _ _ (s .pre) (p .last .0) (z .last .0) (p .kept .0) (z .kept .0) (p .ensures .0) (k .last .1 .0) (k .last .1 .1 .0) (k .result) (k .kept .1 .0) (k .ensures) _ _ (at-noted .noted .given .1) (c .if1 .left)
 
 pub carry-table-spec : {M : Type 1} → statement M
 carry-table-spec =

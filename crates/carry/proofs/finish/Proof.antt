@@ -16,10 +16,17 @@ same-length : tie.Need-same-length
 same-length c = search needs
 
 returns : tie.Need-returns
-returns c = made-full _ _ _ _ _ _ _ (c .before .before .before .before .before .before .before .before .pre .0) _ _ (c .before .before .before .before .make-node .ensures .0) (c .enum-told .given .1)
+returns c =
+    let at-make-node = c .before .before .before .before in
+    let start = at-make-node .before .before .before .before in
+    made-full _ _ _ _ _ _ _ (start .pre .0) _ _ (at-make-node .make-node .ensures .0) (c .enum-told .given .1)
 
 keep-requires : tie.Need-keep-requires
-keep-requires c κs = (search needs, made-small _ _ _ _ _ _ _ (c .before .before .before .before .before .before .before .before .before .before .pre .0) _ _ (c .before .before .before .before .before .before .make-node .ensures .0) _ _ (c .before .before .noted .given .1))
+keep-requires c κs =
+    let at-noted = c .before .before in
+    let at-make-node = at-noted .before .before .before .before in
+    let start = at-make-node .before .before .before .before in
+    (search needs, made-small _ _ _ _ _ _ _ (start .pre .0) _ _ (at-make-node .make-node .ensures .0) _ _ (at-noted .noted .given .1))
 
 same-length-2 : tie.Need-same-length-2
 same-length-2 c = search needs
@@ -28,7 +35,12 @@ same-length-3 : tie.Need-same-length-3
 same-length-3 c = search needs
 
 returns-2 : tie.Need-returns-2
-returns-2 c = record { holds = made-node _ _ _ _ _ _ _ (c .before .before .before .before .before .before .before .before .before .before .before .before .before .pre .0) _ _ (c .before .before .before .before .before .before .before .before .before .make-node .ensures .0) _ _ (c .before .before .before .before .before .noted .given .1); kept = c .before .before .keep .ensures }
+returns-2 c =
+    let at-keep = c .before .before in
+    let at-noted = at-keep .before .before .before in
+    let at-make-node = at-noted .before .before .before .before in
+    let start = at-make-node .before .before .before .before in
+    record { holds = made-node _ _ _ _ _ _ _ (start .pre .0) _ _ (at-make-node .make-node .ensures .0) _ _ (at-noted .noted .given .1); kept = at-keep .keep .ensures }
 
 pub finish-spec : {M : Type 1} → statement M
 finish-spec =

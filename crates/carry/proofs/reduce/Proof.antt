@@ -19,8 +19,10 @@ same-length-2 c = search needs
 
 returns : tie.Need-returns
 returns c =
-    let x = c .before .before .before .before .before .before .before .before .before .before .args in
-    let k = c .before .before .before .before .carry-table in
+    let at-carry-table = c .before .before .before .before in
+    let start = at-carry-table .before .before .before .before .before .before in
+    let x = start .args in
+    let k = at-carry-table .carry-table in
     as-reduced (x .n) (nodes (x .count) (x .bdd .now)) (x .room) (k .last .1 .1 .1 .1 .0) (k .result) false (k .ensures)
 
 pub reduce-spec : {M : Type 1} → statement M

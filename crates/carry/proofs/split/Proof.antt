@@ -19,13 +19,18 @@ enum-known-known : tie.Need-enum-known-known
 enum-known-known c = search needs
 
 returns-2 : tie.Need-returns-2
-returns-2 c = recalled (c .before .before .before .before .before .before .before .before .args .memo .now) (c .before .before .before .before .before .before .before .before .args .way) (c .before .before .before .before .before .before .before .before .args .a .0) _ _ (c .before .known .given .1) (c .before .before .before .recall .ensures)
+returns-2 c =
+    let at-recall = c .before .before .before in
+    let start = at-recall .before .before .before .before .before in
+    recalled (start .args .memo .now) (start .args .way) (start .args .a .0) _ _ (c .before .known .given .1) (at-recall .recall .ensures)
 
 enum-told : tie.Need-enum-told
 enum-told c = search needs
 
 var-of-requires : tie.Need-var-of-requires
-var-of-requires c κs = (omega (arith, words-in _ _ _ _ _ (c .before .before .before .before .before .before .before .pre)), own-mark _ _ _ _ _ (c .before .before .before .before .before .before .before .pre))
+var-of-requires c κs =
+    let start = c .before .before .before .before .before .before .before in
+    (omega (arith, words-in _ _ _ _ _ (start .pre)), own-mark _ _ _ _ _ (start .pre))
 
 child-along-requires : tie.Need-child-along-requires
 child-along-requires c κs = search needs

@@ -51,39 +51,52 @@ mul-i-3 c = search needs
 
 cast-i : tie.Need-cast-i Inv-loop μ-loop
 cast-i c =
-    let g = c .before .before .before .before .before .before .before .before in
-    let two = c .before .before .loop-test .taken in
-    record { fits = omega (arith, c .before .before .before .loop .inv .below two, g .pre .0, g .pre .2) }
+    let at-loop-test = c .before .before in
+    let at-loop = at-loop-test .before in
+    let g = at-loop .before .before .before .before .before in
+    let two = at-loop-test .loop-test .taken in
+    record { fits = omega (arith, at-loop .loop .inv .below two, g .pre .0, g .pre .2) }
 
 add-i-2 : tie.Need-add-i-2 Inv-loop μ-loop
 add-i-2 c =
-    let g = c .before .before .before .before .before .before .before .before in
-    let two = c .before .before .loop-test .taken in
-    record { fits = omega (arith, c .before .before .before .loop .inv .below two, g .pre .0, g .pre .2) }
+    let at-loop-test = c .before .before in
+    let at-loop = at-loop-test .before in
+    let g = at-loop .before .before .before .before .before in
+    let two = at-loop-test .loop-test .taken in
+    record { fits = omega (arith, at-loop .loop .inv .below two, g .pre .0, g .pre .2) }
 
 mul-i-4 : tie.Need-mul-i-4 Inv-loop μ-loop
 mul-i-4 c =
-    let g = c .before .before .before .before .before .before .before .before in
-    let two = c .before .before .loop-test .taken in
-    record { fits = omega (arith, c .before .before .before .loop .inv .below two, g .pre .0, g .pre .2) }
+    let at-loop-test = c .before .before in
+    let at-loop = at-loop-test .before in
+    let g = at-loop .before .before .before .before .before in
+    let two = at-loop-test .loop-test .taken in
+    record { fits = omega (arith, at-loop .loop .inv .below two, g .pre .0, g .pre .2) }
 
 shared-slice-read-i-2 : tie.Need-shared-slice-read-i-2 Inv-loop μ-loop
 shared-slice-read-i-2 c =
-    let g = c .before .before .before .before .before .before .before .before .before in
-    let two = c .before .before .before .loop-test .taken in
-    omega (arith, c .before .before .before .before .loop .inv .below two, g .pre .0, g .pre .2)
+    let at-loop-test = c .before .before .before in
+    let at-loop = at-loop-test .before in
+    let g = at-loop .before .before .before .before .before in
+    let two = at-loop-test .loop-test .taken in
+    omega (arith, at-loop .loop .inv .below two, g .pre .0, g .pre .2)
 
 loop-less : tie.Need-loop-less Inv-loop μ-loop
 loop-less c =
-    let g = c .before .before .before .before .before .before .before .before .before in
-    let two = c .before .before .before .loop-test .taken in
-    next-lt _ _ _ (g .args .variable .0) (g .args .low .0) (g .args .high .0) (g .pre .4) _ two (c .before .before .before .before .loop .inv .below two)
+    let at-loop-test = c .before .before .before in
+    let at-loop = at-loop-test .before in
+    let g = at-loop .before .before .before .before .before in
+    let two = at-loop-test .loop-test .taken in
+    next-lt _ _ _ (g .args .variable .0) (g .args .low .0) (g .args .high .0) (g .pre .4) _ two (at-loop .loop .inv .below two)
 
 loop-again : tie.Need-loop-again Inv-loop μ-loop
 loop-again c =
-    let g = c .before .before .before .before .before .before .before .before .before in
-    let two = c .before .before .before .loop-test .taken in
-    seek-next _ _ _ _ _ _ (g .pre .4) _ two (differs _ _ (sym (c .before .before .same-node .ensures) ∙ c .before .if1 .left)) (c .before .before .before .before .loop .inv)
+    let at-same-node = c .before .before in
+    let at-loop-test = at-same-node .before in
+    let at-loop = at-loop-test .before in
+    let g = at-loop .before .before .before .before .before in
+    let two = at-loop-test .loop-test .taken in
+    seek-next _ _ _ _ _ _ (g .pre .4) _ two (differs _ _ (sym (at-same-node .same-node .ensures) ∙ c .before .if1 .left)) (at-loop .loop .inv)
 
 returns-2 : tie.Need-returns-2 Inv-loop μ-loop
 returns-2 c =

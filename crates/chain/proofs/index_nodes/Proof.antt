@@ -25,13 +25,16 @@ clear-requires c κs = search needs
 
 loop-holds : tie.Need-loop-holds Inv-loop μ-loop
 loop-holds c =
-    let g = c .before .before .before .before .before in
-    (omega arith, g .pre .1, refl, index-none _ _ _ (c .before .before .clear .ensures))
+    let at-clear = c .before .before in
+    let g = at-clear .before .before .before in
+    (omega arith, g .pre .1, refl, index-none _ _ _ (at-clear .clear .ensures))
 
 link-node-requires : tie.Need-link-node-requires Inv-loop μ-loop
 link-node-requires c κs =
-    let g = c .before .before .before .before .before .before .before .before in
-    (omega (arith, g .pre .0, c .before .before .loop .inv .2, c .before .before .before .before .before .clear .kept .0), omega (arith, g .pre .2, c .before .loop-test .taken))
+    let at-loop = c .before .before in
+    let at-clear = at-loop .before .before .before in
+    let g = at-clear .before .before .before in
+    (omega (arith, g .pre .0, at-loop .loop .inv .2, at-clear .clear .kept .0), omega (arith, g .pre .2, c .before .loop-test .taken))
 
 add-i : tie.Need-add-i Inv-loop μ-loop
 add-i c = search needs
@@ -41,9 +44,13 @@ loop-less c = search needs
 
 loop-again : tie.Need-loop-again Inv-loop μ-loop
 loop-again c =
-    let g = c .before .before .before .before .before .before .before .before .before .before .before in
-    let i = c .before .before .before .before .before .loop .inv in
-    (search needs, search needs, c .before .before .link-node .kept .0 ∙ i .2, index-more _ _ _ _ _ (i .0) (omega (arith, g .pre .2, c .before .before .before .before .loop-test .taken)) (omega (arith, g .pre .0, i .2, c .before .before .before .before .before .before .before .before .clear .kept .0)) (i .3) (c .before .before .link-node .ensures))
+    let at-link-node = c .before .before in
+    let at-loop-test = at-link-node .before .before in
+    let at-loop = at-loop-test .before in
+    let at-clear = at-loop .before .before .before in
+    let g = at-clear .before .before .before in
+    let i = at-loop .loop .inv in
+    (search needs, search needs, at-link-node .link-node .kept .0 ∙ i .2, index-more _ _ _ _ _ (i .0) (omega (arith, g .pre .2, at-loop-test .loop-test .taken)) (omega (arith, g .pre .0, i .2, at-clear .clear .kept .0)) (i .3) (at-link-node .link-node .ensures))
 
 same-length : tie.Need-same-length Inv-loop μ-loop
 same-length c = search needs

@@ -49,16 +49,21 @@ mul-work-4 c = search needs
 
 slice-write-work-2 : tie.Need-slice-write-work-2
 slice-write-work-2 c =
-    let g = c .before .before .before .before .before .before .before .before .before .before in
-    simp length-set (omega (arith, c .before .before .slot .ensures .1, g .pre .0))
+    let at-slot = c .before .before in
+    let g = at-slot .before .before .before .before .before .before .before .before in
+    simp length-set (omega (arith, at-slot .slot .ensures .1, g .pre .0))
 
 same-length : tie.Need-same-length
 same-length c = search needs
 
 returns : tie.Need-returns
 returns c =
-    let g = c .before .before .before .before .before .before .before .before .before .before in
-    hung-is (g .args .work .now) (g .args .cap) (g .args .p .0) _ _ _ _ (c .before .before .slot .ensures .0) (c .before .before .before .before .before .before .before .mark-word .ensures) (c .before .before .before .before .before .low-link-of .ensures) (c .before .before .before .high-link-of .ensures)
+    let at-slot = c .before .before in
+    let at-high-link-of = at-slot .before in
+    let at-low-link-of = at-high-link-of .before .before in
+    let at-mark-word = at-low-link-of .before .before in
+    let g = at-mark-word .before .before .before in
+    hung-is (g .args .work .now) (g .args .cap) (g .args .p .0) _ _ _ _ (at-slot .slot .ensures .0) (at-mark-word .mark-word .ensures) (at-low-link-of .low-link-of .ensures) (at-high-link-of .high-link-of .ensures)
 
 pub link-node-spec : {M : Type 1} → statement M
 link-node-spec =

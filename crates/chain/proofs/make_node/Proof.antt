@@ -28,9 +28,11 @@ same-length c = search needs
 
 returns-2 : tie.Need-returns-2
 returns-2 c =
-    let g = c .before .before .before .before .before .before .before .before .before in
-    let found = subst (λ z. Searched (g .args .work .now) (g .args .count) (g .args .variable .0) (g .args .low .0) (g .args .high .0) z) (c .before .found .given .1) (c .before .before .before .find-node .ensures) in
-    noded-same _ _ _ _ _ _ _ (g .pre .0) (g .pre .1) (g .pre .2) _ (node-hit _ _ _ _ _ _ _ (g .pre .0) (c .before .before .before .before .before .if1 .left) (c .before .found .given .0 .0 .0) found)
+    let at-find-node = c .before .before .before in
+    let at-if1 = at-find-node .before .before in
+    let g = at-if1 .before .before .before .before in
+    let found = subst (λ z. Searched (g .args .work .now) (g .args .count) (g .args .variable .0) (g .args .low .0) (g .args .high .0) z) (c .before .found .given .1) (at-find-node .find-node .ensures) in
+    noded-same _ _ _ _ _ _ _ (g .pre .0) (g .pre .1) (g .pre .2) _ (node-hit _ _ _ _ _ _ _ (g .pre .0) (at-if1 .if1 .left) (c .before .found .given .0 .0 .0) found)
 
 enum-told : tie.Need-enum-told
 enum-told c = search needs
@@ -49,16 +51,20 @@ same-length-2 c = search needs
 
 returns-3 : tie.Need-returns-3
 returns-3 c =
-    let g = c .before .before .before .before .before .before .before .before .before .before .before .before .before .before in
+    let at-enum-told = c .before .before .before .before .before .before in
+    let at-find-node = at-enum-told .before .before in
+    let at-if1 = at-find-node .before .before in
+    let g = at-if1 .before .before .before .before in
     let push = c .before .before .before .before in
-    let made = node-pushed _ _ _ _ _ _ _ (g .pre .0) (c .before .before .before .before .before .before .before .before .before .before .if1 .left) _ (c .before .before .before .before .before .before .before .before .find-node .ensures) (c .before .before .before .before .before .before .enum-told .given .1) (push .push-node .last .0) (push .push-node .result) (push .push-node .ensures .0) in
+    let made = node-pushed _ _ _ _ _ _ _ (g .pre .0) (at-if1 .if1 .left) _ (at-find-node .find-node .ensures) (at-enum-told .enum-told .given .1) (push .push-node .last .0) (push .push-node .result) (push .push-node .ensures .0) in
     subst (λ z. Answers (mk (nodes (g .args .count) (g .args .work .now)) (g .args .variable .0) (g .args .low .0) (g .args .high .0)) (g .args .cap) (push .push-node .last .0) z) (c .enum-told2 .given .1) made
 
 link-node-requires : tie.Need-link-node-requires
 link-node-requires c κs =
-    let g = c .before .before .before .before .before .before .before .before .before .before .before .before .before .before .before .before in
-    let push = c .before .before .before .before .before .before in
-    let told = c .before .before .noted .given .1 in
+    let at-noted = c .before .before in
+    let g = at-noted .before .before .before .before .before .before .before .before .before .before .before .before .before .before in
+    let push = at-noted .before .before .before .before in
+    let told = at-noted .noted .given .1 in
     let new = subst (λ z. Answers (pushed (g .args .work .now) (g .args .count) (g .args .variable .0) (g .args .low .0) (g .args .high .0)) (g .args .cap) (push .push-node .last .0) z) told (push .push-node .ensures .0) in
     (omega (arith, g .pre .1, push .push-node .kept .0), push-lt _ _ _ _ _ _ _ (g .pre .0) (g .pre .1) (g .pre .2) _ _ _ (push .push-node .kept .0) new (push .push-node .ensures .1))
 
@@ -67,12 +73,17 @@ same-length-3 c = search needs
 
 returns-4 : tie.Need-returns-4
 returns-4 c =
-    let g = c .before .before .before .before .before .before .before .before .before .before .before .before .before .before .before .before .before .before .before in
-    let push = c .before .before .before .before .before .before .before .before .before in
-    let told = c .before .before .before .before .before .noted .given .1 in
+    let at-link-node = c .before .before in
+    let at-noted = at-link-node .before .before .before in
+    let at-enum-told = at-noted .before .before .before .before .before .before in
+    let at-find-node = at-enum-told .before .before in
+    let at-if1 = at-find-node .before .before in
+    let g = at-if1 .before .before .before .before in
+    let push = at-noted .before .before .before .before in
+    let told = at-noted .noted .given .1 in
     let new = subst (λ z. Answers (pushed (g .args .work .now) (g .args .count) (g .args .variable .0) (g .args .low .0) (g .args .high .0)) (g .args .cap) (push .push-node .last .0) z) told (push .push-node .ensures .0) in
-    let made = node-pushed _ _ _ _ _ _ _ (g .pre .0) (c .before .before .before .before .before .before .before .before .before .before .before .before .before .before .before .if1 .left) _ (c .before .before .before .before .before .before .before .before .before .before .before .before .before .find-node .ensures) (c .before .before .before .before .before .before .before .before .before .before .before .enum-told .given .1) (push .push-node .last .0) (push .push-node .result) (push .push-node .ensures .0) in
-    noded-new _ _ _ _ _ _ _ (g .pre .0) (g .pre .1) (g .pre .2) _ _ _ (push .push-node .kept .0) new (push .push-node .ensures .1) (subst (λ z. Answers (mk (nodes (g .args .count) (g .args .work .now)) (g .args .variable .0) (g .args .low .0) (g .args .high .0)) (g .args .cap) (push .push-node .last .0) z) told made) _ (c .before .before .link-node .ensures)
+    let made = node-pushed _ _ _ _ _ _ _ (g .pre .0) (at-if1 .if1 .left) _ (at-find-node .find-node .ensures) (at-enum-told .enum-told .given .1) (push .push-node .last .0) (push .push-node .result) (push .push-node .ensures .0) in
+    noded-new _ _ _ _ _ _ _ (g .pre .0) (g .pre .1) (g .pre .2) _ _ _ (push .push-node .kept .0) new (push .push-node .ensures .1) (subst (λ z. Answers (mk (nodes (g .args .count) (g .args .work .now)) (g .args .variable .0) (g .args .low .0) (g .args .high .0)) (g .args .cap) (push .push-node .last .0) z) told made) _ (at-link-node .link-node .ensures)
 
 pub make-node-spec : {M : Type 1} → statement M
 make-node-spec =

@@ -28,7 +28,10 @@ slice-aggregate-compare-list : tie.Need-slice-aggregate-compare-list
 slice-aggregate-compare-list c = search needs
 
 compare-list-requires : tie.Need-compare-list-requires
-compare-list-requires c κs = cover-ready _ _ _ _ _ _ _ _ (c .before .before .before .before .before .admit-cover .ensures) _ (c .before .before .before .admitted .given .1) _ (omega arith)
+compare-list-requires c κs =
+    let at-admitted = c .before .before .before in
+    let at-admit-cover = at-admitted .before .before in
+    cover-ready _ _ _ _ _ _ _ _ (at-admit-cover .admit-cover .ensures) _ (at-admitted .admitted .given .1) _ (omega arith)
 
 zero-u32-from-requires : tie.Need-zero-u32-from-requires
 zero-u32-from-requires c κs = search needs
@@ -38,8 +41,9 @@ same-length-2 c = search needs
 
 returns-2 : tie.Need-returns-2
 returns-2 c =
-    let l = c .before .before .before .before .before .before .before in
-    cover-answered _ _ _ _ _ _ _ _ (l .before .before .before .before .before .before .admit-cover .ensures) _ (l .before .before .before .before .admitted .given .1) _ (l .compare-list .ensures) (l .compare-list .last .1 .1 .1 .1 .1 .1 .1 .1 .0) _ (l .compare-list .kept .1 .1 .1 .1 .1 .1 .1 .1 .0) (c .before .before .zero-u32-from .ensures)
+    let at-zero-u32-from = c .before .before in
+    let l = at-zero-u32-from .before .before .before .before .before in
+    cover-answered _ _ _ _ _ _ _ _ (l .before .before .before .before .before .before .admit-cover .ensures) _ (l .before .before .before .before .admitted .given .1) _ (l .compare-list .ensures) (l .compare-list .last .1 .1 .1 .1 .1 .1 .1 .1 .0) _ (l .compare-list .kept .1 .1 .1 .1 .1 .1 .1 .1 .0) (at-zero-u32-from .zero-u32-from .ensures)
 
 pub check-cover-spec : {M : Type 1} → statement M
 check-cover-spec =

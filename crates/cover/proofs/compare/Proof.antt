@@ -25,7 +25,9 @@ returns c =
     absurd (let z : ⊥ = never-full _ _ _ _ (b .last .1 .1 .1 .1 .1 .0) (b .result) (b .ensures) (c .enum-told .given .1) in z)
 
 sub-t16 : tie.Need-sub-t16
-sub-t16 c = made-some _ _ _ _ _ _ _ (c .before .before .before .before .before .before .before .before .before .before .before .before .before .pre)
+sub-t16 c =
+    let start = c .before .before .before .before .before .before .before .before .before .before .before .before .before in
+    made-some _ _ _ _ _ _ _ (start .pre)
 
 cast-t17 : tie.Need-cast-t17
 cast-t17 c = search needs
@@ -45,9 +47,10 @@ returns-2 c =
 
 first-differing-requires : tie.Need-first-differing-requires
 first-differing-requires c κs =
+    let start = c .before .before .before .before .before .before .before .before .before .before .before .before .before .before .before .before .before in
     let d = c .before .before .before .before .before in
     let b = d .before .before .before .before .before .before .bring in
-    paired _ _ _ _ _ _ _ (brought _ _ _ _ (b .last .1 .1 .1 .1 .1 .0) (b .result) (b .ensures) _ _ (d .brought .given .1)) (c .before .before .before .before .before .before .before .before .before .before .before .before .before .before .before .before .before .pre .table .marks)
+    paired _ _ _ _ _ _ _ (brought _ _ _ _ (b .last .1 .1 .1 .1 .1 .0) (b .result) (b .ensures) _ _ (d .brought .given .1)) (start .pre .table .marks)
 
 same-length-5 : tie.Need-same-length-5
 same-length-5 c = search needs
@@ -58,9 +61,10 @@ same-length-6 c = search needs
 returns-3 : tie.Need-returns-3
 unfolding coveredReply
 returns-3 c =
-    let d = c .before .before .before .before .before .before in
+    let at-if1 = c .before .before in
+    let d = at-if1 .before .before .before .before in
     let b = d .before .before .before .before .before .before .bring in
-    differ _ _ _ _ _ _ _ (brought _ _ _ _ (b .last .1 .1 .1 .1 .1 .0) (b .result) (b .ensures) _ _ (d .brought .given .1)) (c .before .before .if1 .left) _ (c .first-differing .ensures)
+    differ _ _ _ _ _ _ _ (brought _ _ _ _ (b .last .1 .1 .1 .1 .1 .0) (b .result) (b .ensures) _ _ (d .brought .given .1)) (at-if1 .if1 .left) _ (c .first-differing .ensures)
 
 pub compare-spec : {M : Type 1} → statement M
 compare-spec =

@@ -25,14 +25,16 @@ enum-known-tabled-2 c = search needs
 
 cast-copy-nodes : tie.Need-cast-copy-nodes
 cast-copy-nodes c =
-    let b = c .before .before .before .before .before .before .before .before .before in
-    record { fits = omega (arith, made-few _ _ _ _ _ _ _ _ _ (b .before .before .before .before .before .before .before .pre) (b .build .last .1 .1 .1 .1 .1 .1 .0) (b .build .kept .1 .1 .1 .1 .1 .1 .0) (b .build .result) (b .build .ensures) _ (c .before .before .before .tabled2 .given .1)) }
+    let at-tabled2 = c .before .before .before in
+    let b = at-tabled2 .before .before .before .before .before .before in
+    record { fits = omega (arith, made-few _ _ _ _ _ _ _ _ _ (b .before .before .before .before .before .before .before .pre) (b .build .last .1 .1 .1 .1 .1 .1 .0) (b .build .kept .1 .1 .1 .1 .1 .1 .0) (b .build .result) (b .build .ensures) _ (at-tabled2 .tabled2 .given .1)) }
 
 copy-nodes-requires : tie.Need-copy-nodes-requires
 copy-nodes-requires c κs =
-    let b = c .before .before .before .before .before .before .before .before .before in (
-      omega (arith, b .build .kept .1 .1 .1 .1 .1 .1 .1 .0, made-fits _ _ _ _ _ _ _ _ _ (b .before .before .before .before .before .before .before .pre) (b .build .last .1 .1 .1 .1 .1 .1 .0) (b .build .kept .1 .1 .1 .1 .1 .1 .0) (b .build .result) (b .build .ensures) _ (c .before .before .before .tabled2 .given .1)),
-      made-within _ _ _ _ _ _ _ _ _ (b .before .before .before .before .before .before .before .pre) (b .build .last .1 .1 .1 .1 .1 .1 .0) (b .build .kept .1 .1 .1 .1 .1 .1 .0) (b .build .result) (b .build .ensures) _ (c .before .before .before .tabled2 .given .1),
+    let at-tabled2 = c .before .before .before in
+    let b = at-tabled2 .before .before .before .before .before .before in (
+      omega (arith, b .build .kept .1 .1 .1 .1 .1 .1 .1 .0, made-fits _ _ _ _ _ _ _ _ _ (b .before .before .before .before .before .before .before .pre) (b .build .last .1 .1 .1 .1 .1 .1 .0) (b .build .kept .1 .1 .1 .1 .1 .1 .0) (b .build .result) (b .build .ensures) _ (at-tabled2 .tabled2 .given .1)),
+      made-within _ _ _ _ _ _ _ _ _ (b .before .before .before .before .before .before .before .pre) (b .build .last .1 .1 .1 .1 .1 .1 .0) (b .build .kept .1 .1 .1 .1 .1 .1 .0) (b .build .result) (b .build .ensures) _ (at-tabled2 .tabled2 .given .1),
     )
 
 compare-requires : tie.Need-compare-requires
@@ -62,10 +64,11 @@ same-length-4 c = search needs
 
 returns-2 : tie.Need-returns-2
 returns-2 c =
-    let k = c .before .before .before .before .before .before .before .before .before in
+    let at-compare = c .before .before .before .before in
+    let k = at-compare .before .before .before .before .before in
     let b = k .before .before .before .before .before .before .before .before .before .before in
     list-compared _ _ _ _ _ _ _ _ _ (b .before .before .before .before .before .before .before .pre) (b .build .last .1 .1 .1 .1 .1 .1 .0) (b .build .kept .1 .1 .1 .1 .1 .1 .0) (b .build .result) (b .build .ensures) _ (k .before .before .before .before .tabled2 .given .1) _ (k .copy-nodes .last .0) (k .copy-nodes .ensures)
-    _ (c .before .before .before .before .compare .ensures)
+    _ (at-compare .compare .ensures)
 
 pub compare-list-spec : {M : Type 1} → statement M
 compare-list-spec =

@@ -24,7 +24,10 @@ over-room-requires c κs = search needs
 returns-3 : tie.Need-returns-3
 unfolding overCover
 returns-3 c =
-    rw (← (sym (c .before .before .before .if1 .left) ∙ c .before .before .before .before .over-limit .ensures), ← (sym (c .before .if2 .left) ∙ c .before .before .over-list .ensures))
+    let at-over-list = c .before .before in
+    let at-if1 = at-over-list .before in
+    let at-over-limit = at-if1 .before in
+    rw (← (sym (at-if1 .if1 .left) ∙ at-over-limit .over-limit .ensures), ← (sym (c .before .if2 .left) ∙ at-over-list .over-list .ensures))
     (c .over-room .ensures)
 
 pub over-cover-spec : {M : Type 1} → statement M

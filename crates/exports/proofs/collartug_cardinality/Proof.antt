@@ -16,7 +16,11 @@ same-length : tie.Need-same-length
 same-length c = search needs
 
 returns : tie.Need-returns
-returns c = exported _ _ _ _ _ _ (c .before .before .write-reply .ensures) (c .before .before .before .counted-written .ensures) (c .before .before .before .before .cardinality .ensures)
+returns c =
+    let at-write-reply = c .before .before in
+    let at-counted-written = at-write-reply .before in
+    let at-cardinality = at-counted-written .before in
+    exported _ _ _ _ _ _ (at-write-reply .write-reply .ensures) (at-counted-written .counted-written .ensures) (at-cardinality .cardinality .ensures)
 
 pub collartug-cardinality-spec : {M : Type 1} → statement M
 collartug-cardinality-spec =

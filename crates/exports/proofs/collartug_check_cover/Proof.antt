@@ -22,7 +22,12 @@ same-length-2 : tie.Need-same-length-2
 same-length-2 c = search needs
 
 returns-2 : tie.Need-returns-2
-returns-2 c = worked-all _ _ _ _ _ _ _ _ (c .before .before .before .before .before .before .before .before .before .if1 .left) (c .before .before .write-reply .ensures) (c .before .before .before .covered-written .ensures) (c .before .before .before .before .before .before .before .check-cover .ensures .0) (c .before .before .before .before .before .before .before .check-cover .ensures .1)
+returns-2 c =
+    let at-write-reply = c .before .before in
+    let at-covered-written = at-write-reply .before in
+    let at-check-cover = at-covered-written .before .before .before .before in
+    let at-if1 = at-check-cover .before .before in
+    worked-all _ _ _ _ _ _ _ _ (at-if1 .if1 .left) (at-write-reply .write-reply .ensures) (at-covered-written .covered-written .ensures) (at-check-cover .check-cover .ensures .0) (at-check-cover .check-cover .ensures .1)
 
 pub collartug-check-cover-spec : {M : Type 1} → statement M
 collartug-check-cover-spec =

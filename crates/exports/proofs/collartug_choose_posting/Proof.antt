@@ -21,7 +21,12 @@ same-length c = search needs
 
 returns : tie.Need-returns
 unfolding replied
-returns c = exported _ _ _ _ _ (posts (c .before .before .before .before .before .before .before .before .before .args .dnf .now) (c .before .before .before .before .before .before .before .before .before .args .cnf .now)) (c .before .before .write-reply .ensures) (c .before .before .before .part-written .ensures) (ap (λ p. gives (partValues p)) (c .before .before .before .before .choose-posting .ensures .0))
+returns c =
+    let at-write-reply = c .before .before in
+    let at-part-written = at-write-reply .before in
+    let at-choose-posting = at-part-written .before in
+    let start = at-choose-posting .before .before .before .before .before in
+    exported _ _ _ _ _ (posts (start .args .dnf .now) (start .args .cnf .now)) (at-write-reply .write-reply .ensures) (at-part-written .part-written .ensures) (ap (λ p. gives (partValues p)) (at-choose-posting .choose-posting .ensures .0))
 
 pub collartug-choose-posting-spec : {M : Type 1} → statement M
 collartug-choose-posting-spec =

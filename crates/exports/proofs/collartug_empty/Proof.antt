@@ -22,7 +22,11 @@ same-length c = search needs
 
 returns : tie.Need-returns
 unfolding replied
-returns c = exported _ _ _ _ _ (saysClause (clause 0 0)) (c .before .before .write-reply .ensures) (c .before .before .before .pair-written .ensures) (ap₂ (λ f v. gives (f ∷ v ∷ [])) (c .before .before .before .before .before .empty .ensures .0) (c .before .before .before .before .before .empty .ensures .1))
+returns c =
+    let at-write-reply = c .before .before in
+    let at-pair-written = at-write-reply .before in
+    let at-empty = at-pair-written .before .before in
+    exported _ _ _ _ _ (saysClause (clause 0 0)) (at-write-reply .write-reply .ensures) (at-pair-written .pair-written .ensures) (ap₂ (λ f v. gives (f ∷ v ∷ [])) (at-empty .empty .ensures .0) (at-empty .empty .ensures .1))
 
 pub collartug-empty-spec : {M : Type 1} → statement M
 collartug-empty-spec =

@@ -22,7 +22,12 @@ same-length-2 : tie.Need-same-length-2
 same-length-2 c = search needs
 
 returns-2 : tie.Need-returns-2
-returns-2 c = worked-all _ _ _ _ _ _ _ _ (c .before .before .before .before .before .before .before .before .before .if1 .left) (c .before .before .write-reply .ensures) (c .before .before .before .counted-written .ensures) (c .before .before .before .before .before .before .before .exact-cardinality .ensures .0) (c .before .before .before .before .before .before .before .exact-cardinality .ensures .1)
+returns-2 c =
+    let at-write-reply = c .before .before in
+    let at-counted-written = at-write-reply .before in
+    let at-exact-cardinality = at-counted-written .before .before .before .before in
+    let at-if1 = at-exact-cardinality .before .before in
+    worked-all _ _ _ _ _ _ _ _ (at-if1 .if1 .left) (at-write-reply .write-reply .ensures) (at-counted-written .counted-written .ensures) (at-exact-cardinality .exact-cardinality .ensures .0) (at-exact-cardinality .exact-cardinality .ensures .1)
 
 pub collartug-exact-cardinality-spec : {M : Type 1} → statement M
 collartug-exact-cardinality-spec =

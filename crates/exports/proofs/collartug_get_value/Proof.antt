@@ -16,7 +16,11 @@ same-length : tie.Need-same-length
 same-length c = search needs
 
 returns : tie.Need-returns
-returns c = exported _ _ _ _ _ _ (c .before .before .write-reply .ensures) (c .before .before .before .lookup-written .ensures) (c .before .before .before .before .get-value .ensures)
+returns c =
+    let at-write-reply = c .before .before in
+    let at-lookup-written = at-write-reply .before in
+    let at-get-value = at-lookup-written .before in
+    exported _ _ _ _ _ _ (at-write-reply .write-reply .ensures) (at-lookup-written .lookup-written .ensures) (at-get-value .get-value .ensures)
 
 pub collartug-get-value-spec : {M : Type 1} → statement M
 collartug-get-value-spec =

@@ -16,7 +16,11 @@ same-length : tie.Need-same-length
 same-length c = search needs
 
 returns : tie.Need-returns
-returns c = exported _ _ _ _ _ _ (c .before .before .write-reply .ensures) (c .before .before .before .inspection-written .ensures) (c .before .before .before .before .inspect .ensures)
+returns c =
+    let at-write-reply = c .before .before in
+    let at-inspection-written = at-write-reply .before in
+    let at-inspect = at-inspection-written .before in
+    exported _ _ _ _ _ _ (at-write-reply .write-reply .ensures) (at-inspection-written .inspection-written .ensures) (at-inspect .inspect .ensures)
 
 pub collartug-inspect-spec : {M : Type 1} → statement M
 collartug-inspect-spec =

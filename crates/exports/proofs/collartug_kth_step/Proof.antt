@@ -16,7 +16,11 @@ same-length : tie.Need-same-length
 same-length c = search needs
 
 returns : tie.Need-returns
-returns c = exported _ _ _ _ _ _ (c .before .before .write-reply .ensures) (c .before .before .before .step-written .ensures) (c .before .before .before .before .kth-step .ensures)
+returns c =
+    let at-write-reply = c .before .before in
+    let at-step-written = at-write-reply .before in
+    let at-kth-step = at-step-written .before in
+    exported _ _ _ _ _ _ (at-write-reply .write-reply .ensures) (at-step-written .step-written .ensures) (at-kth-step .kth-step .ensures)
 
 pub collartug-kth-step-spec : {M : Type 1} → statement M
 collartug-kth-step-spec =

@@ -16,7 +16,11 @@ same-length : tie.Need-same-length
 same-length c = search needs
 
 returns : tie.Need-returns
-returns c = exported _ _ _ _ _ _ (c .before .before .write-reply .ensures) (c .before .before .before .last-fixed-written .ensures) (c .before .before .before .before .last-fixed-variable .ensures)
+returns c =
+    let at-write-reply = c .before .before in
+    let at-last-fixed-written = at-write-reply .before in
+    let at-last-fixed-variable = at-last-fixed-written .before in
+    exported _ _ _ _ _ _ (at-write-reply .write-reply .ensures) (at-last-fixed-written .last-fixed-written .ensures) (at-last-fixed-variable .last-fixed-variable .ensures)
 
 pub collartug-last-fixed-variable-spec : {M : Type 1} → statement M
 collartug-last-fixed-variable-spec =

@@ -25,7 +25,12 @@ same-length-3 : tie.Need-same-length-3
 same-length-3 c = search needs
 
 returns-2 : tie.Need-returns-2
-returns-2 c = pair-all _ _ _ _ _ _ _ _ _ _ (c .before .before .before .before .before .before .before .before .before .before .before .before .if1 .left) (c .before .before .write-reply .ensures) (c .before .before .before .sheet-written .ensures) (c .before .before .before .before .before .before .before .before .before .read-sheet .ensures .0) (c .before .before .before .before .before .before .before .before .before .read-sheet .ensures .1 .0) (c .before .before .before .before .before .before .before .before .before .read-sheet .ensures .1 .1)
+returns-2 c =
+    let at-write-reply = c .before .before in
+    let at-sheet-written = at-write-reply .before in
+    let at-read-sheet = at-sheet-written .before .before .before .before .before .before in
+    let at-if1 = at-read-sheet .before .before .before in
+    pair-all _ _ _ _ _ _ _ _ _ _ (at-if1 .if1 .left) (at-write-reply .write-reply .ensures) (at-sheet-written .sheet-written .ensures) (at-read-sheet .read-sheet .ensures .0) (at-read-sheet .read-sheet .ensures .1 .0) (at-read-sheet .read-sheet .ensures .1 .1)
 
 pub collartug-read-sheet-spec : {M : Type 1} → statement M
 collartug-read-sheet-spec =

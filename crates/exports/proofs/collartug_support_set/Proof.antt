@@ -22,7 +22,12 @@ same-length-2 : tie.Need-same-length-2
 same-length-2 c = search needs
 
 returns-2 : tie.Need-returns-2
-returns-2 c = worked-all _ _ _ _ _ _ _ _ (c .before .before .before .before .before .before .before .before .before .if1 .left) (c .before .before .write-reply .ensures) (c .before .before .before .marks-written .ensures) (c .before .before .before .before .before .before .before .support-set .ensures .0) (c .before .before .before .before .before .before .before .support-set .ensures .1)
+returns-2 c =
+    let at-write-reply = c .before .before in
+    let at-marks-written = at-write-reply .before in
+    let at-support-set = at-marks-written .before .before .before .before in
+    let at-if1 = at-support-set .before .before in
+    worked-all _ _ _ _ _ _ _ _ (at-if1 .if1 .left) (at-write-reply .write-reply .ensures) (at-marks-written .marks-written .ensures) (at-support-set .support-set .ensures .0) (at-support-set .support-set .ensures .1)
 
 pub collartug-support-set-spec : {M : Type 1} → statement M
 collartug-support-set-spec =

@@ -25,7 +25,12 @@ same-length-3 : tie.Need-same-length-3
 same-length-3 c = search needs
 
 returns-2 : tie.Need-returns-2
-returns-2 c = exported-all _ _ _ _ _ _ _ _ (c .before .before .before .before .before .before .before .before .before .before .before .before .if1 .left) (c .before .before .before .before .before .before .before .before .before .to-dnf .ensures .1 .0) (worked-all _ _ _ _ _ _ _ _ (c .before .before .before .before .before .before .before .before .before .before .before .before .if1 .left) (c .before .before .write-reply .ensures) (c .before .before .before .listed-written .ensures) (c .before .before .before .before .before .before .before .before .before .to-dnf .ensures .0) (c .before .before .before .before .before .before .before .before .before .to-dnf .ensures .1 .1))
+returns-2 c =
+    let at-write-reply = c .before .before in
+    let at-listed-written = at-write-reply .before in
+    let at-to-dnf = at-listed-written .before .before .before .before .before .before in
+    let at-if1 = at-to-dnf .before .before .before in
+    exported-all _ _ _ _ _ _ _ _ (at-if1 .if1 .left) (at-to-dnf .to-dnf .ensures .1 .0) (worked-all _ _ _ _ _ _ _ _ (at-if1 .if1 .left) (at-write-reply .write-reply .ensures) (at-listed-written .listed-written .ensures) (at-to-dnf .to-dnf .ensures .0) (at-to-dnf .to-dnf .ensures .1 .1))
 
 pub collartug-to-dnf-spec : {M : Type 1} → statement M
 collartug-to-dnf-spec =

@@ -13,13 +13,20 @@ to-values-requires : tie.Need-to-values-requires
 to-values-requires c κs = search needs
 
 write-values-requires : tie.Need-write-values-requires
-write-values-requires c κs = (c .before .before .if1 .left, sixty-words _ (clause (c .before .before .before .before .args .fixed) (c .before .before .before .before .args .values)) (c .to-values .ensures))
+write-values-requires c κs =
+    let at-if1 = c .before .before in
+    let start = at-if1 .before .before in
+    (at-if1 .if1 .left, sixty-words _ (clause (start .args .fixed) (start .args .values)) (c .to-values .ensures))
 
 same-length : tie.Need-same-length
 same-length c = search needs
 
 returns-2 : tie.Need-returns-2
-returns-2 c = (rw (le-ltb _ _ (c .before .before .before .before .before .if1 .left)), filled _ _ _ _ (c .before .before .before .before .before .if1 .left) (c .before .before .write-values .ensures) (c .before .before .before .to-values .ensures))
+returns-2 c =
+    let at-write-values = c .before .before in
+    let at-to-values = at-write-values .before in
+    let at-if1 = at-to-values .before .before in
+    (rw (le-ltb _ _ (at-if1 .if1 .left)), filled _ _ _ _ (at-if1 .if1 .left) (at-write-values .write-values .ensures) (at-to-values .to-values .ensures))
 
 pub collartug-to-values-spec : {M : Type 1} → statement M
 collartug-to-values-spec =

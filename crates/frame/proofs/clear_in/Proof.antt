@@ -27,10 +27,11 @@ same-length c = search needs
 
 returns : tie.Need-returns
 returns c =
-    let g = c .before .before .before .before .before in
+    let at-zero-u32-from = c .before .before in
+    let g = at-zero-u32-from .before .before .before in
     let a = g .args in
-    lent-back (a .w .now) (c .before .before .zero-u32-from .last .0) (a .start) (a .end) (g .pre .0) (g .pre .1) (c .before .before .zero-u32-from .kept .0)
-    (λ z. z ≡ padded (take 0 (part (a .start) (a .end) (a .w .now))) (length (part (a .start) (a .end) (a .w .now)))) (c .before .before .zero-u32-from .ensures)
+    lent-back (a .w .now) (at-zero-u32-from .zero-u32-from .last .0) (a .start) (a .end) (g .pre .0) (g .pre .1) (at-zero-u32-from .zero-u32-from .kept .0)
+    (λ z. z ≡ padded (take 0 (part (a .start) (a .end) (a .w .now))) (length (part (a .start) (a .end) (a .w .now)))) (at-zero-u32-from .zero-u32-from .ensures)
 
 pub clear-in-spec : {M : Type 1} → statement M
 clear-in-spec =

@@ -26,9 +26,10 @@ same-length c = search needs
 
 returns : tie.Need-returns
 returns c =
-    let g = c .before .before .before .before .before in
+    let at-put-constants = c .before .before in
+    let g = at-put-constants .before .before .before in
     let a = g .args in
-    lent-back (a .w .now) (c .before .before .put-constants .last .0) (a .start) (a .end) (g .pre .0) (g .pre .1) (c .before .before .put-constants .kept .0) (λ z. nodes 2 z ≡ constants (a .n)) (c .before .before .put-constants .ensures .0)
+    lent-back (a .w .now) (at-put-constants .put-constants .last .0) (a .start) (a .end) (g .pre .0) (g .pre .1) (at-put-constants .put-constants .kept .0) (λ z. nodes 2 z ≡ constants (a .n)) (at-put-constants .put-constants .ensures .0)
 
 pub constants-in-spec : {M : Type 1} → statement M
 constants-in-spec =

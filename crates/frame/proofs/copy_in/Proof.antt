@@ -13,7 +13,9 @@ same-length : tie.Need-same-length
 same-length c = search needs
 
 returns : tie.Need-returns
-returns c = let g = c .before .before .before .before .before in let a = g .args in let m = c .before .before .copy-words in (m .ensures .0 .front, copied-table (a .q .n) (a .w .now) (m .last .0) (a .a) (a .d) (a .k) (g .pre .1) (m .kept .0) (m .ensures .1))
+returns c =
+    let at-copy-words = c .before .before in
+    let g = at-copy-words .before .before .before in let a = g .args in let m = at-copy-words .copy-words in (m .ensures .0 .front, copied-table (a .q .n) (a .w .now) (m .last .0) (a .a) (a .d) (a .k) (g .pre .1) (m .kept .0) (m .ensures .1))
 
 pub copy-in-spec : {M : Type 1} → statement M
 copy-in-spec = tie.close (tie.spec mul-copy-words copy-words-requires same-length returns)

@@ -20,22 +20,40 @@ mul-w : tie.Need-mul-w Inv-loop μ-loop
 mul-w c = omega (arith, c .before .before .pre .0, c .before .before .pre .1, c .before .loop .inv .0 .long, c .before .loop .inv .1)
 
 slice-read-w : tie.Need-slice-read-w Inv-loop μ-loop
-slice-read-w c = omega (arith, c .before .before .before .pre .0, c .before .before .before .pre .1, c .before .before .loop .inv .0 .long, c .before .before .loop .inv .1)
+slice-read-w c =
+    let at-loop = c .before .before in
+    let start = at-loop .before in
+    omega (arith, start .pre .0, start .pre .1, at-loop .loop .inv .0 .long, at-loop .loop .inv .1)
 
 add-w-2 : tie.Need-add-w-2 Inv-loop μ-loop
-add-w-2 c = omega (arith, c .before .before .before .pre .0, c .before .before .before .pre .1, c .before .before .loop .inv .0 .long, c .before .before .loop .inv .1)
+add-w-2 c =
+    let at-loop = c .before .before in
+    let start = at-loop .before in
+    omega (arith, start .pre .0, start .pre .1, at-loop .loop .inv .0 .long, at-loop .loop .inv .1)
 
 mul-w-2 : tie.Need-mul-w-2 Inv-loop μ-loop
-mul-w-2 c = omega (arith, c .before .before .before .pre .0, c .before .before .before .pre .1, c .before .before .loop .inv .0 .long, c .before .before .loop .inv .1)
+mul-w-2 c =
+    let at-loop = c .before .before in
+    let start = at-loop .before in
+    omega (arith, start .pre .0, start .pre .1, at-loop .loop .inv .0 .long, at-loop .loop .inv .1)
 
 slice-write-w : tie.Need-slice-write-w Inv-loop μ-loop
-slice-write-w c = omega (arith, c .before .before .before .pre .0, c .before .before .before .pre .1, c .before .before .loop .inv .0 .long, c .before .before .loop .inv .1)
+slice-write-w c =
+    let at-loop = c .before .before in
+    let start = at-loop .before in
+    omega (arith, start .pre .0, start .pre .1, at-loop .loop .inv .0 .long, at-loop .loop .inv .1)
 
 add-i : tie.Need-add-i Inv-loop μ-loop
-add-i c = omega (arith, c .before .before .before .pre .0, c .before .before .before .pre .1, c .before .before .loop .inv .0 .long, c .before .before .loop .inv .1)
+add-i c =
+    let at-loop = c .before .before in
+    let start = at-loop .before in
+    omega (arith, start .pre .0, start .pre .1, at-loop .loop .inv .0 .long, at-loop .loop .inv .1)
 
 loop-less : tie.Need-loop-less Inv-loop μ-loop
-loop-less c = omega (arith, c .before .before .before .pre .0, c .before .before .before .pre .1, c .before .before .loop .inv .0 .long, c .before .before .loop .inv .1)
+loop-less c =
+    let at-loop = c .before .before in
+    let start = at-loop .before in
+    omega (arith, start .pre .0, start .pre .1, at-loop .loop .inv .0 .long, at-loop .loop .inv .1)
 
 loop-again : tie.Need-loop-again Inv-loop μ-loop
 loop-again c = let g = c .before .before .before in let a = g .args in let l = c .before .before .loop in (copy-step (a .w .now) (l .w) (a .a) (a .d) (a .n) (l .i) (g .pre .2) (g .pre .1) (let z : l .i < a .n = omega arith in z) (l .inv .0), omega arith)

@@ -27,10 +27,11 @@ same-length c = search needs
 
 returns : tie.Need-returns
 returns c =
-    let g = c .before .before .before .before .before in
+    let at-make-node = c .before .before in
+    let g = at-make-node .before .before .before in
     let a = g .args in
-    lent-back (a .w .now) (c .before .before .make-node .last .0) (a .start) (a .end) (g .pre .0) (g .pre .1) (c .before .before .make-node .kept .0)
-    (λ z. Answers (mk (nodes (a .count) (part (a .start) (a .end) (a .w .now))) (a .variable .0) (a .low .0) (a .high .0)) (a .room) z (c .before .before .make-node .result)) (c .before .before .make-node .ensures .0)
+    lent-back (a .w .now) (at-make-node .make-node .last .0) (a .start) (a .end) (g .pre .0) (g .pre .1) (at-make-node .make-node .kept .0)
+    (λ z. Answers (mk (nodes (a .count) (part (a .start) (a .end) (a .w .now))) (a .variable .0) (a .low .0) (a .high .0)) (a .room) z (at-make-node .make-node .result)) (at-make-node .make-node .ensures .0)
 
 pub node-in-spec : {M : Type 1} → statement M
 node-in-spec =

@@ -60,7 +60,9 @@ module _ (t : ℕ) where
   branch-same-length c = search needs
 
   branch-returns : branch-in-lts.Need-returns (branch-told t) (branch-at t) branch-in.Post
-  branch-returns c = let s = c .before .before .before .before .before .before .before in low-over _ _ _ _ _ (s .pre .1 .0) _ (s .pre .1 .1) _ _ (c .before .before .before .before .carry-in .kept .0) (c .before .before .before .before .carry-in .ensures .0) (c .before .before .before .before .carry-in .ensures .1) (c .enum-told .given .1)
+  branch-returns c =
+      let at-carry-in = c .before .before .before .before in
+      let s = at-carry-in .before .before .before in low-over _ _ _ _ _ (s .pre .1 .0) _ (s .pre .1 .1) _ _ (at-carry-in .carry-in .kept .0) (at-carry-in .carry-in .ensures .0) (at-carry-in .carry-in .ensures .1) (c .enum-told .given .1)
 
   branch-carry-in-requires-2 : branch-in-lts.Need-carry-in-requires-2 (branch-told t) (branch-at t) branch-in.Post
   branch-carry-in-requires-2 c κs = let l = c .before in let s = start-of l in (omega (arith, s .pre .0, high-falls _ _ _ _ _ (s .pre .1 .0) _ (s .pre .1 .1)), high-asks _ _ _ _ _ (s .pre .1 .0) _ (s .pre .1 .1) _ _ (l .before .before .before .before .before .carry-in .kept .0) (l .before .before .before .before .before .carry-in .ensures .0) (l .before .before .before .before .before .carry-in .ensures .1) _ _ (l .before .lo .given .1))
@@ -75,7 +77,9 @@ module _ (t : ℕ) where
   branch-same-length-2 c = search needs
 
   branch-returns-2 : branch-in-lts.Need-returns-2 (branch-told t) (branch-at t) branch-in.Post
-  branch-returns-2 c = let l = c .before .before .before .before .before .before in let s = start-of l in high-over _ _ _ _ _ (s .pre .1 .0) _ (s .pre .1 .1) _ _ (l .before .before .before .before .before .carry-in .kept .0) (l .before .before .before .before .before .carry-in .ensures .0) (l .before .before .before .before .before .carry-in .ensures .1) _ _ (l .before .lo .given .1) _ _ (c .before .before .before .before .carry-in2 .kept .0) (c .before .before .before .before .carry-in2 .ensures .0) (c .before .before .before .before .carry-in2 .ensures .1) (c .enum-told2 .given .1)
+  branch-returns-2 c =
+      let at-carry-in2 = c .before .before .before .before in
+      let l = at-carry-in2 .before .before in let s = start-of l in high-over _ _ _ _ _ (s .pre .1 .0) _ (s .pre .1 .1) _ _ (l .before .before .before .before .before .carry-in .kept .0) (l .before .before .before .before .before .carry-in .ensures .0) (l .before .before .before .before .before .carry-in .ensures .1) _ _ (l .before .lo .given .1) _ _ (at-carry-in2 .carry-in2 .kept .0) (at-carry-in2 .carry-in2 .ensures .0) (at-carry-in2 .carry-in2 .ensures .1) (c .enum-told2 .given .1)
 
   branch-finish-in-requires : branch-in-lts.Need-finish-in-requires (branch-told t) (branch-at t) branch-in.Post
   branch-finish-in-requires c κs = let h = c .before in let l = low-of h in let s = start-of l in finish-asks _ _ _ _ _ (s .pre .1 .0) _ (s .pre .1 .1) _ _ (l .before .before .before .before .before .carry-in .kept .0) (l .before .before .before .before .before .carry-in .ensures .0) (l .before .before .before .before .before .carry-in .ensures .1) _ _ (l .before .lo .given .1) _ _ (h .before .before .before .before .before .carry-in2 .kept .0) (h .before .before .before .before .before .carry-in2 .ensures .0) (h .before .before .before .before .before .carry-in2 .ensures .1) _ _ (h .before .hi .given .1)
@@ -84,7 +88,9 @@ module _ (t : ℕ) where
   branch-same-length-3 c = search needs
 
   branch-returns-3 : branch-in-lts.Need-returns-3 (branch-told t) (branch-at t) branch-in.Post
-  branch-returns-3 c = let h = c .before .before .before .before in let l = low-of h in let s = start-of l in carried-in _ _ _ _ _ (s .pre .1 .0) _ (s .pre .1 .1) _ _ (l .before .before .before .before .before .carry-in .kept .0) (l .before .before .before .before .before .carry-in .ensures .0) (l .before .before .before .before .before .carry-in .ensures .1) _ _ (l .before .lo .given .1) _ _ (h .before .before .before .before .before .carry-in2 .kept .0) (h .before .before .before .before .before .carry-in2 .ensures .0) (h .before .before .before .before .before .carry-in2 .ensures .1) _ _ (h .before .hi .given .1) _ (c .before .before .finish-in .result) (c .before .before .finish-in .ensures .0) (c .before .before .finish-in .ensures .1)
+  branch-returns-3 c =
+      let at-finish-in = c .before .before in
+      let h = at-finish-in .before .before in let l = low-of h in let s = start-of l in carried-in _ _ _ _ _ (s .pre .1 .0) _ (s .pre .1 .1) _ _ (l .before .before .before .before .before .carry-in .kept .0) (l .before .before .before .before .before .carry-in .ensures .0) (l .before .before .before .before .before .carry-in .ensures .1) _ _ (l .before .lo .given .1) _ _ (h .before .before .before .before .before .carry-in2 .kept .0) (h .before .before .before .before .before .carry-in2 .ensures .0) (h .before .before .before .before .before .carry-in2 .ensures .1) _ _ (h .before .hi .given .1) _ (at-finish-in .finish-in .result) (at-finish-in .finish-in .ensures .0) (at-finish-in .finish-in .ensures .1)
 
 module _ (t : ℕ) where
   carry-split-in-requires : carry-in-lts.Need-split-in-requires (carry-told t) (carry-at t) carry-in.Post
@@ -103,7 +109,10 @@ module _ (t : ℕ) where
   carry-same-length c = search needs
 
   carry-returns : carry-in-lts.Need-returns (carry-told t) (carry-at t) carry-in.Post
-  carry-returns c = done-in _ _ _ _ _ (c .before .before .before .before .before .before .pre .1) _ (c .before .before .before .split-in .ensures) _ (c .before .step .given .1)
+  carry-returns c =
+      let at-split-in = c .before .before .before in
+      let start = at-split-in .before .before .before in
+      done-in _ _ _ _ _ (start .pre .1) _ (at-split-in .split-in .ensures) _ (c .before .step .given .1)
 
   carry-same-length-2 : carry-in-lts.Need-same-length-2 (carry-told t) (carry-at t) carry-in.Post
   carry-same-length-2 c = search needs

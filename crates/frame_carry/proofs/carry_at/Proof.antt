@@ -19,7 +19,11 @@ sub-t16 : tie.Need-sub-t16
 sub-t16 c = search needs
 
 carry-in-requires : tie.Need-carry-in-requires
-carry-in-requires c κs = start-asks _ _ _ (c .before .before .before .before .before .before .before .before .before .before .before .before .before .pre) _ _ (c .before .before .before .before .before .before .before .before .before .before .constants-in .kept .0) (c .before .before .before .before .clear-in .kept .0) (c .before .before .before .before .before .before .before .before .before .before .constants-in .ensures .0) (c .before .before .before .before .clear-in .ensures .0) (c .before .before .before .before .before .before .before .before .before .before .constants-in .ensures .1) (c .before .before .before .before .clear-in .ensures .1)
+carry-in-requires c κs =
+    let at-clear-in = c .before .before .before .before in
+    let at-constants-in = at-clear-in .before .before .before .before .before .before in
+    let start = at-constants-in .before .before .before in
+    start-asks _ _ _ (start .pre) _ _ (at-constants-in .constants-in .kept .0) (at-clear-in .clear-in .kept .0) (at-constants-in .constants-in .ensures .0) (at-clear-in .clear-in .ensures .0) (at-constants-in .constants-in .ensures .1) (at-clear-in .clear-in .ensures .1)
 
 enum-known-noted : tie.Need-enum-known-noted
 enum-known-noted c = search needs
@@ -31,19 +35,36 @@ same-length : tie.Need-same-length
 same-length c = search needs
 
 returns : tie.Need-returns
-returns c = over-at _ _ _ (c .before .before .before .before .before .before .before .before .before .before .before .before .before .before .before .before .before .before .pre) _ _ (c .before .before .before .before .before .before .before .before .before .before .before .before .before .before .before .constants-in .kept .0) (c .before .before .before .before .before .before .before .before .before .clear-in .kept .0) (c .before .before .before .before .before .before .before .before .before .before .before .before .before .before .before .constants-in .ensures .0) (c .before .before .before .before .before .before .before .before .before .clear-in .ensures .0) (c .before .before .before .before .before .before .before .before .before .before .before .before .before .before .before .constants-in .ensures .1) (c .before .before .before .before .before .before .before .before .before .clear-in .ensures .1) _ _ (c .before .before .before .before .carry-in .kept .0) (c .before .before .before .before .carry-in .ensures .0) (c .before .before .before .before .carry-in .ensures .1) (c .enum-told .given .1)
+returns c =
+    let at-carry-in = c .before .before .before .before in
+    let at-clear-in = at-carry-in .before .before .before .before .before in
+    let at-constants-in = at-clear-in .before .before .before .before .before .before in
+    let start = at-constants-in .before .before .before in
+    over-at _ _ _ (start .pre) _ _ (at-constants-in .constants-in .kept .0) (at-clear-in .clear-in .kept .0) (at-constants-in .constants-in .ensures .0) (at-clear-in .clear-in .ensures .0) (at-constants-in .constants-in .ensures .1) (at-clear-in .clear-in .ensures .1) _ _ (at-carry-in .carry-in .kept .0) (at-carry-in .carry-in .ensures .0) (at-carry-in .carry-in .ensures .1) (c .enum-told .given .1)
 
 same-length-2 : tie.Need-same-length-2
 same-length-2 c = search needs
 
 returns-2 : tie.Need-returns-2
-returns-2 c = false-at _ _ _ (c .before .before .before .before .before .before .before .before .before .before .before .before .before .before .before .before .before .before .before .before .before .pre) _ _ (c .before .before .before .before .before .before .before .before .before .before .before .before .before .before .before .before .before .before .constants-in .kept .0) (c .before .before .before .before .before .before .before .before .before .before .before .before .clear-in .kept .0) (c .before .before .before .before .before .before .before .before .before .before .before .before .before .before .before .before .before .before .constants-in .ensures .0) (c .before .before .before .before .before .before .before .before .before .before .before .before .clear-in .ensures .0) (c .before .before .before .before .before .before .before .before .before .before .before .before .before .before .before .before .before .before .constants-in .ensures .1) (c .before .before .before .before .before .before .before .before .before .before .before .before .clear-in .ensures .1) _ _ (c .before .before .before .before .before .before .before .carry-in .kept .0) (c .before .before .before .before .before .before .before .carry-in .ensures .0) (c .before .before .before .before .before .before .before .carry-in .ensures .1) _ _ (c .before .before .before .noted .given .1) (c .if1 .taken)
+returns-2 c =
+    let at-noted = c .before .before .before in
+    let at-carry-in = at-noted .before .before .before .before in
+    let at-clear-in = at-carry-in .before .before .before .before .before in
+    let at-constants-in = at-clear-in .before .before .before .before .before .before in
+    let start = at-constants-in .before .before .before in
+    false-at _ _ _ (start .pre) _ _ (at-constants-in .constants-in .kept .0) (at-clear-in .clear-in .kept .0) (at-constants-in .constants-in .ensures .0) (at-clear-in .clear-in .ensures .0) (at-constants-in .constants-in .ensures .1) (at-clear-in .clear-in .ensures .1) _ _ (at-carry-in .carry-in .kept .0) (at-carry-in .carry-in .ensures .0) (at-carry-in .carry-in .ensures .1) _ _ (at-noted .noted .given .1) (c .if1 .taken)
 
 same-length-3 : tie.Need-same-length-3
 same-length-3 c = search needs
 
 returns-3 : tie.Need-returns-3
-returns-3 c = table-at _ _ _ (c .before .before .before .before .before .before .before .before .before .before .before .before .before .before .before .before .before .before .before .before .before .pre) _ _ (c .before .before .before .before .before .before .before .before .before .before .before .before .before .before .before .before .before .before .constants-in .kept .0) (c .before .before .before .before .before .before .before .before .before .before .before .before .clear-in .kept .0) (c .before .before .before .before .before .before .before .before .before .before .before .before .before .before .before .before .before .before .constants-in .ensures .0) (c .before .before .before .before .before .before .before .before .before .before .before .before .clear-in .ensures .0) (c .before .before .before .before .before .before .before .before .before .before .before .before .before .before .before .before .before .before .constants-in .ensures .1) (c .before .before .before .before .before .before .before .before .before .before .before .before .clear-in .ensures .1) _ _ (c .before .before .before .before .before .before .before .carry-in .kept .0) (c .before .before .before .before .before .before .before .carry-in .ensures .0) (c .before .before .before .before .before .before .before .carry-in .ensures .1) _ _ (c .before .before .before .noted .given .1) (c .if1 .left)
+returns-3 c =
+    let at-noted = c .before .before .before in
+    let at-carry-in = at-noted .before .before .before .before in
+    let at-clear-in = at-carry-in .before .before .before .before .before in
+    let at-constants-in = at-clear-in .before .before .before .before .before .before in
+    let start = at-constants-in .before .before .before in
+    table-at _ _ _ (start .pre) _ _ (at-constants-in .constants-in .kept .0) (at-clear-in .clear-in .kept .0) (at-constants-in .constants-in .ensures .0) (at-clear-in .clear-in .ensures .0) (at-constants-in .constants-in .ensures .1) (at-clear-in .clear-in .ensures .1) _ _ (at-carry-in .carry-in .kept .0) (at-carry-in .carry-in .ensures .0) (at-carry-in .carry-in .ensures .1) _ _ (at-noted .noted .given .1) (c .if1 .left)
 
 pub carry-at-spec : {M : Type 1} → statement M
 carry-at-spec =

@@ -16,7 +16,10 @@ same-length : tie.Need-same-length
 same-length c = search needs
 
 returns : tie.Need-returns
-returns c = full-in _ _ _ _ _ _ _ _ (c .before .before .before .before .before .before .before .pre) _ _ (c .before .before .before .before .node-in .kept .0) (c .before .before .before .before .node-in .ensures .0) (c .before .before .before .before .node-in .ensures .1) (c .enum-told .given .1)
+returns c =
+    let at-node-in = c .before .before .before .before in
+    let start = at-node-in .before .before .before in
+    full-in _ _ _ _ _ _ _ _ (start .pre) _ _ (at-node-in .node-in .kept .0) (at-node-in .node-in .ensures .0) (at-node-in .node-in .ensures .1) (c .enum-told .given .1)
 
 cast-keep-in : tie.Need-cast-keep-in
 cast-keep-in c = search needs
@@ -25,13 +28,22 @@ add-keep-in : tie.Need-add-keep-in
 add-keep-in c = search needs
 
 keep-in-requires : tie.Need-keep-in-requires
-keep-in-requires c κs = keep-asks _ _ _ _ _ _ _ _ (c .before .before .before .before .before .before .before .before .before .before .before .pre) _ _ (c .before .before .before .before .before .before .before .before .node-in .kept .0) (c .before .before .before .before .before .before .before .before .node-in .ensures .0) (c .before .before .before .before .before .before .before .before .node-in .ensures .1) _ _ (c .before .before .before .before .noted .given .1)
+keep-in-requires c κs =
+    let at-noted = c .before .before .before .before in
+    let at-node-in = at-noted .before .before .before .before in
+    let start = at-node-in .before .before .before in
+    keep-asks _ _ _ _ _ _ _ _ (start .pre) _ _ (at-node-in .node-in .kept .0) (at-node-in .node-in .ensures .0) (at-node-in .node-in .ensures .1) _ _ (at-noted .noted .given .1)
 
 same-length-2 : tie.Need-same-length-2
 same-length-2 c = search needs
 
 returns-2 : tie.Need-returns-2
-returns-2 c = finished-in _ _ _ _ _ _ _ _ (c .before .before .before .before .before .before .before .before .before .before .before .before .before .before .pre) _ _ (c .before .before .before .before .before .before .before .before .before .before .before .node-in .kept .0) (c .before .before .before .before .before .before .before .before .before .before .before .node-in .ensures .0) (c .before .before .before .before .before .before .before .before .before .before .before .node-in .ensures .1) _ _ (c .before .before .before .before .before .before .before .noted .given .1) _ (c .before .before .keep-in .ensures .0) (c .before .before .keep-in .ensures .1)
+returns-2 c =
+    let at-keep-in = c .before .before in
+    let at-noted = at-keep-in .before .before .before .before .before in
+    let at-node-in = at-noted .before .before .before .before in
+    let start = at-node-in .before .before .before in
+    finished-in _ _ _ _ _ _ _ _ (start .pre) _ _ (at-node-in .node-in .kept .0) (at-node-in .node-in .ensures .0) (at-node-in .node-in .ensures .1) _ _ (at-noted .noted .given .1) _ (at-keep-in .keep-in .ensures .0) (at-keep-in .keep-in .ensures .1)
 
 pub finish-in-spec : {M : Type 1} → statement M
 finish-in-spec =

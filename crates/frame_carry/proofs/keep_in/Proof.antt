@@ -27,9 +27,10 @@ same-length c = search needs
 
 returns : tie.Need-returns
 returns c =
-    let g = c .before .before .before .before .before in
+    let at-keep = c .before .before in
+    let g = at-keep .before .before .before in
     let a = g .args in
-    lent-back (a .w .now) (c .before .before .keep .last .0) (a .start) (a .end) (g .pre .0) (g .pre .1) (c .before .before .keep .kept .0) (λ z. z ≡ set (part (a .start) (a .end) (a .w .now)) (a .a .0) (a .r .0 + 1)) (c .before .before .keep .ensures)
+    lent-back (a .w .now) (at-keep .keep .last .0) (a .start) (a .end) (g .pre .0) (g .pre .1) (at-keep .keep .kept .0) (λ z. z ≡ set (part (a .start) (a .end) (a .w .now)) (a .a .0) (a .r .0 + 1)) (at-keep .keep .ensures)
 
 pub keep-in-spec : {M : Type 1} → statement M
 keep-in-spec =

@@ -60,7 +60,11 @@ module _ (t : ℕ) where
   same-length c = search needs
 
   returns : says-no-in-lts.Need-returns (told t) (at t) says-no-in.Post
-  returns c = known-in _ _ _ _ _ _ (c .before .before .before .before .before .before .before .pre .1) _ (c .before .before .before .before .split-in .ensures) _ (c .before .before .enum-told .given .1) _ (c .before .known-of .ensures)
+  returns c =
+      let at-enum-told = c .before .before in
+      let at-split-in = at-enum-told .before .before in
+      let start = at-split-in .before .before .before in
+      known-in _ _ _ _ _ _ (start .pre .1) _ (at-split-in .split-in .ensures) _ (at-enum-told .enum-told .given .1) _ (c .before .known-of .ensures)
 
   add-t12 : says-no-in-lts.Need-add-t12 (told t) (at t) says-no-in.Post
   add-t12 c = let k = c .before in record { fits = omega (arith, next-small _ _ _ _ _ _ (start-of k .pre .1) _ (cut-parted k)) }
@@ -72,7 +76,9 @@ module _ (t : ℕ) where
   same-length-2 c = search needs
 
   returns-2 : says-no-in-lts.Need-returns-2 (told t) (at t) says-no-in.Post
-  returns-2 c = let k = c .before .before .before .before .before .before in low-no _ _ _ _ _ _ (start-of k .pre .1) _ (cut-parted k) _ (c .before .before .before .says-no-in .result) (c .before .before .before .says-no-in .kept .0) (c .before .before .before .says-no-in .ensures .0) (c .before .before .before .says-no-in .ensures .1) (not-true _ (c .if1 .taken))
+  returns-2 c =
+      let at-says-no-in = c .before .before .before in
+      let k = at-says-no-in .before .before .before in low-no _ _ _ _ _ _ (start-of k .pre .1) _ (cut-parted k) _ (at-says-no-in .says-no-in .result) (at-says-no-in .says-no-in .kept .0) (at-says-no-in .says-no-in .ensures .0) (at-says-no-in .says-no-in .ensures .1) (not-true _ (c .if1 .taken))
 
   says-no-in-requires-2 : says-no-in-lts.Need-says-no-in-requires-2 (told t) (at t) says-no-in.Post
   says-no-in-requires-2 c κs = let l = c .before in let k = cut-of l in (omega (arith, start-of k .pre .0, fall _ _ _ _ _ _ (start-of k .pre .1) _ (cut-parted k)), high-asks _ _ _ _ _ _ (start-of k .pre .1) _ (cut-parted k) _ (l .before .before .before .says-no-in .result) (l .before .before .before .says-no-in .kept .0) (l .before .before .before .says-no-in .ensures .0) (l .before .before .before .says-no-in .ensures .1) (not-false _ (l .if1 .left)))
@@ -81,7 +87,9 @@ module _ (t : ℕ) where
   same-length-3 c = search needs
 
   returns-3 : says-no-in-lts.Need-returns-3 (told t) (at t) says-no-in.Post
-  returns-3 c = let l = c .before .before .before .before .before in let k = cut-of l in high-no _ _ _ _ _ _ (start-of k .pre .1) _ (cut-parted k) _ (l .before .before .before .says-no-in .result) (l .before .before .before .says-no-in .kept .0) (l .before .before .before .says-no-in .ensures .0) (l .before .before .before .says-no-in .ensures .1) (not-false _ (l .if1 .left)) _ (c .before .before .before .says-no-in2 .result) (c .before .before .before .says-no-in2 .kept .0) (c .before .before .before .says-no-in2 .ensures .0) (c .before .before .before .says-no-in2 .ensures .1) (not-true _ (c .if2 .taken))
+  returns-3 c =
+      let at-says-no-in2 = c .before .before .before in
+      let l = at-says-no-in2 .before .before in let k = cut-of l in high-no _ _ _ _ _ _ (start-of k .pre .1) _ (cut-parted k) _ (l .before .before .before .says-no-in .result) (l .before .before .before .says-no-in .kept .0) (l .before .before .before .says-no-in .ensures .0) (l .before .before .before .says-no-in .ensures .1) (not-false _ (l .if1 .left)) _ (at-says-no-in2 .says-no-in2 .result) (at-says-no-in2 .says-no-in2 .kept .0) (at-says-no-in2 .says-no-in2 .ensures .0) (at-says-no-in2 .says-no-in2 .ensures .1) (not-true _ (c .if2 .taken))
 
   remember-in-requires : says-no-in-lts.Need-remember-in-requires (told t) (at t) says-no-in.Post
   remember-in-requires c κs = let h = c .before in let l = low-of h in let k = cut-of l in remember-in-asks _ _ _ _ _ _ (start-of k .pre .1) _ (cut-parted k) _ (l .before .before .before .says-no-in .result) (l .before .before .before .says-no-in .kept .0) (l .before .before .before .says-no-in .ensures .0) (l .before .before .before .says-no-in .ensures .1) (not-false _ (l .if1 .left)) _ (h .before .before .before .says-no-in2 .result) (h .before .before .before .says-no-in2 .kept .0) (h .before .before .before .says-no-in2 .ensures .0) (h .before .before .before .says-no-in2 .ensures .1)
@@ -90,7 +98,9 @@ module _ (t : ℕ) where
   same-length-4 c = search needs
 
   returns-4 : says-no-in-lts.Need-returns-4 (told t) (at t) says-no-in.Post
-  returns-4 c = let h = c .before .before .before .before in let l = low-of h in let k = cut-of l in implied-in _ _ _ _ _ _ (start-of k .pre .1) _ (cut-parted k) _ (l .before .before .before .says-no-in .result) (l .before .before .before .says-no-in .kept .0) (l .before .before .before .says-no-in .ensures .0) (l .before .before .before .says-no-in .ensures .1) (not-false _ (l .if1 .left)) _ (h .before .before .before .says-no-in2 .result) (h .before .before .before .says-no-in2 .kept .0) (h .before .before .before .says-no-in2 .ensures .0) (h .before .before .before .says-no-in2 .ensures .1) (not-false _ (h .if2 .left)) _ (c .before .before .remember-in .ensures .0) (c .before .before .remember-in .ensures .1)
+  returns-4 c =
+      let at-remember-in = c .before .before in
+      let h = at-remember-in .before .before in let l = low-of h in let k = cut-of l in implied-in _ _ _ _ _ _ (start-of k .pre .1) _ (cut-parted k) _ (l .before .before .before .says-no-in .result) (l .before .before .before .says-no-in .kept .0) (l .before .before .before .says-no-in .ensures .0) (l .before .before .before .says-no-in .ensures .1) (not-false _ (l .if1 .left)) _ (h .before .before .before .says-no-in2 .result) (h .before .before .before .says-no-in2 .kept .0) (h .before .before .before .says-no-in2 .ensures .0) (h .before .before .before .says-no-in2 .ensures .1) (not-false _ (h .if2 .left)) _ (at-remember-in .remember-in .ensures .0) (at-remember-in .remember-in .ensures .1)
 
 pub +says-no-in-spec : {M : Type 1} → statement M
 +says-no-in-spec = close μ (λ t. says-no-in-lts.spec (told t) (at t) says-no-in.Post (split-in-requires t) (enum-known-step t) (enum-told t) (known-of-requires t) (same-length t) (returns t) (add-t12 t) (says-no-in-requires t) (same-length-2 t) (returns-2 t) (says-no-in-requires-2 t) (same-length-3 t) (returns-3 t) (remember-in-requires t) (same-length-4 t) (returns-4 t))

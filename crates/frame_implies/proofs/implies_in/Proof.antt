@@ -22,7 +22,9 @@ same-length : tie.Need-same-length
 same-length c = search needs
 
 returns : tie.Need-returns
-returns c = let g = c .before .before .before .before .before .before in let a = g .args in let s = c .before .before .tables-say-no-in in (s .ensures .0, pair-inside (a .q) (a .w .now) (a .a) (a .k) (a .b) (a .j) (g .pre .0) (g .pre .1) (g .pre .2) (6 * (a .k + a .j)) (s .result) (s .ensures .1))
+returns c =
+    let at-tables-say-no-in = c .before .before in
+    let g = at-tables-say-no-in .before .before .before .before in let a = g .args in let s = at-tables-say-no-in .tables-say-no-in in (s .ensures .0, pair-inside (a .q) (a .w .now) (a .a) (a .k) (a .b) (a .j) (g .pre .0) (g .pre .1) (g .pre .2) (6 * (a .k + a .j)) (s .result) (s .ensures .1))
 
 pub implies-in-spec : {M : Type 1} → statement M
 implies-in-spec =

@@ -19,7 +19,9 @@ same-length : tie.Need-same-length
 same-length c = search needs
 
 returns : tie.Need-returns
-returns c = let g = c .before .before .before .before .before .before in let a = g .args in let s = c .before .before .tables-say-no-in in (s .ensures .0, (λ f t. inside-in (a .q) (a .w .now) (a .a) (a .k) (a .a) (a .k) (g .pre .0) (g .pre .1) (g .pre .1) (12 * a .k) (a .x) (a .v) (a .x) (not (a .v)) (s .result) (s .ensures .1) f f t t))
+returns c =
+    let at-tables-say-no-in = c .before .before in
+    let g = at-tables-say-no-in .before .before .before .before in let a = g .args in let s = at-tables-say-no-in .tables-say-no-in in (s .ensures .0, (λ f t. inside-in (a .q) (a .w .now) (a .a) (a .k) (a .a) (a .k) (g .pre .0) (g .pre .1) (g .pre .1) (12 * a .k) (a .x) (a .v) (a .x) (not (a .v)) (s .result) (s .ensures .1) f f t t))
 
 pub spare-in-spec : {M : Type 1} → statement M
 spare-in-spec = tie.close (tie.spec mul-t14 add-t15 tables-say-no-in-requires same-length returns)

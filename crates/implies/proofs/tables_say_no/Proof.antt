@@ -13,13 +13,19 @@ sub-t10-2 : tie.Need-sub-t10-2
 sub-t10-2 c = search needs
 
 says-no-requires : tie.Need-says-no-requires
-says-no-requires c κs = start-ready _ _ _ _ (c .before .before .before .before .before .before .before .before .before .before .pre) _ (c .before .before .before .before .before .zero-u32-from .kept .0) (c .before .before .before .before .before .zero-u32-from .ensures)
+says-no-requires c κs =
+    let at-zero-u32-from = c .before .before .before .before .before in
+    let start = at-zero-u32-from .before .before .before .before .before in
+    start-ready _ _ _ _ (start .pre) _ (at-zero-u32-from .zero-u32-from .kept .0) (at-zero-u32-from .zero-u32-from .ensures)
 
 same-length : tie.Need-same-length
 same-length c = search needs
 
 returns : tie.Need-returns
-returns c = whole-says _ _ _ _ (c .before .before .before .before .before .before .before .before .before .before .before .before .before .pre) (c .before .before .says-no .last .1 .1 .0) (c .before .before .says-no .result) (c .before .before .says-no .ensures)
+returns c =
+    let at-says-no = c .before .before in
+    let start = at-says-no .before .before .before .before .before .before .before .before .before .before .before in
+    whole-says _ _ _ _ (start .pre) (at-says-no .says-no .last .1 .1 .0) (at-says-no .says-no .result) (at-says-no .says-no .ensures)
 
 pub tables-say-no-spec : {M : Type 1} → statement M
 tables-say-no-spec =

@@ -47,13 +47,17 @@ module _ (t : ℕ) where
   low-is : (c : join-lts.After-known-told2 (told t) (at t) join.Post) → let k = cut-of c in let g = start-of k .args in
       Joined (g .a .now) (g .b .now) (g .out .now) (c .before .before .before .before .before .before .before .join .last .1 .1 .0) (c .before .before .before .before .before .before .before .join .last .1 .1 .1 .0) (g .job) (k .before .step .given .0 .0 .level .0 + 1) (g .count)
       (k .before .step .given .0 .0 .low .left .0) (k .before .step .given .0 .0 .low .right .0) (c .before .low .given .0 .0 .0) (c .before .low .given .0 .1 .0)
-  low-is c = let k = cut-of c in side-got _ _ _ _ _ _ _ _ _ (start-of k .pre .1) _ (cut-parted k) _ _ _ _ _ _ (c .before .before .before .before .before .before .before .join .ensures) _ _ (c .before .low .given .1)
+  low-is c =
+      let at-join = c .before .before .before .before .before .before .before in
+      let k = cut-of c in side-got _ _ _ _ _ _ _ _ _ (start-of k .pre .1) _ (cut-parted k) _ _ _ _ _ _ (at-join .join .ensures) _ _ (c .before .low .given .1)
 
   -- the high pair's answer
   high-is : (c : join-lts.After-known-told3 (told t) (at t) join.Post) → let l = low-of c in let k = cut-of l in let g = start-of k .args in
       Joined (g .a .now) (g .b .now) (l .before .before .before .before .before .before .before .join .last .1 .1 .0) (c .before .before .before .before .before .before .before .join2 .last .1 .1 .0) (c .before .before .before .before .before .before .before .join2 .last .1 .1 .1 .0) (g .job) (k .before .step .given .0 .0 .level .0 + 1) (l .before .low .given .0 .1 .0)
       (k .before .step .given .0 .0 .high .left .0) (k .before .step .given .0 .0 .high .right .0) (c .before .high .given .0 .0 .0) (c .before .high .given .0 .1 .0)
-  high-is c = let k = cut-of (low-of c) in side-got _ _ _ _ _ _ _ _ _ (start-of k .pre .1) _ (cut-parted k) _ _ _ _ _ _ (c .before .before .before .before .before .before .before .join2 .ensures) _ _ (c .before .high .given .1)
+  high-is c =
+      let at-join2 = c .before .before .before .before .before .before .before in
+      let k = cut-of (low-of c) in side-got _ _ _ _ _ _ _ _ _ (start-of k .pre .1) _ (cut-parted k) _ _ _ _ _ _ (at-join2 .join2 .ensures) _ _ (c .before .high .given .1)
 
   split-requires : join-lts.Need-split-requires (told t) (at t) join.Post
   split-requires c κs = splitting _ _ _ _ _ _ _ _ _ (c .before .before .before .before .before .pre .1)
@@ -71,7 +75,10 @@ module _ (t : ℕ) where
   same-length c = search needs
 
   returns : join-lts.Need-returns (told t) (at t) join.Post
-  returns c = step-known _ _ _ _ _ _ _ _ _ (c .before .before .before .before .before .before .before .before .before .pre .1) _ (c .before .before .before .split .ensures) _ (c .before .enum-told .given .1) _ (c .known-of .ensures)
+  returns c =
+      let at-split = c .before .before .before in
+      let start = at-split .before .before .before .before .before .before in
+      step-known _ _ _ _ _ _ _ _ _ (start .pre .1) _ (at-split .split .ensures) _ (c .before .enum-told .given .1) _ (c .known-of .ensures)
 
   add-t21 : join-lts.Need-add-t21 (told t) (at t) join.Post
   add-t21 c =
@@ -95,7 +102,8 @@ module _ (t : ℕ) where
 
   returns-2 : join-lts.Need-returns-2 (told t) (at t) join.Post
   returns-2 c =
-      let k = c .before .before .before .before .before .before .before .before .before .before in low-full _ _ _ _ _ _ _ _ _ (start-of k .pre .1) _ (cut-parted k) (side-full _ _ _ _ _ _ _ _ _ (start-of k .pre .1) _ (cut-parted k) _ _ _ _ _ _ (c .before .before .before .before .before .before .join .ensures) (c .enum-told2 .given .1))
+      let at-join = c .before .before .before .before .before .before in
+      let k = at-join .before .before .before .before in low-full _ _ _ _ _ _ _ _ _ (start-of k .pre .1) _ (cut-parted k) (side-full _ _ _ _ _ _ _ _ _ (start-of k .pre .1) _ (cut-parted k) _ _ _ _ _ _ (at-join .join .ensures) (c .enum-told2 .given .1))
 
   join-requires-2 : join-lts.Need-join-requires-2 (told t) (at t) join.Post
   join-requires-2 c κs =
@@ -115,7 +123,8 @@ module _ (t : ℕ) where
 
   returns-3 : join-lts.Need-returns-3 (told t) (at t) join.Post
   returns-3 c =
-      let l = c .before .before .before .before .before .before .before .before .before in let k = cut-of l in high-full _ _ _ _ _ _ _ _ _ (start-of k .pre .1) _ (cut-parted k) _ _ _ _ (l .before .before .before .before .before .before .before .join .kept .1 .1 .0) (l .before .before .before .before .before .before .before .join .kept .1 .1 .1 .0) (low-is l) (side-full _ _ _ _ _ _ _ _ _ (start-of k .pre .1) _ (cut-parted k) _ _ _ _ _ _ (c .before .before .before .before .before .before .join2 .ensures) (c .enum-told3 .given .1))
+      let at-join2 = c .before .before .before .before .before .before in
+      let l = at-join2 .before .before .before in let k = cut-of l in high-full _ _ _ _ _ _ _ _ _ (start-of k .pre .1) _ (cut-parted k) _ _ _ _ (l .before .before .before .before .before .before .before .join .kept .1 .1 .0) (l .before .before .before .before .before .before .before .join .kept .1 .1 .1 .0) (low-is l) (side-full _ _ _ _ _ _ _ _ _ (start-of k .pre .1) _ (cut-parted k) _ _ _ _ _ _ (at-join2 .join2 .ensures) (c .enum-told3 .given .1))
 
   settle-requires : join-lts.Need-settle-requires (told t) (at t) join.Post
   settle-requires c κs =
@@ -129,8 +138,9 @@ module _ (t : ℕ) where
 
   returns-4 : join-lts.Need-returns-4 (told t) (at t) join.Post
   returns-4 c =
-      let h = c .before .before .before .before .before .before .before in let l = low-of h in let k = cut-of l in
-      finish _ _ _ _ _ _ _ _ _ (start-of k .pre .1) _ (cut-parted k) _ _ _ _ (l .before .before .before .before .before .before .before .join .kept .1 .1 .0) (l .before .before .before .before .before .before .before .join .kept .1 .1 .1 .0) (low-is l) _ _ _ _ (h .before .before .before .before .before .before .before .join2 .kept .1 .1 .0) (h .before .before .before .before .before .before .before .join2 .kept .1 .1 .1 .0) (high-is h) _ _ (c .before .before .before .before .settle .result) (c .before .before .before .before .settle .ensures)
+      let at-settle = c .before .before .before .before in
+      let h = at-settle .before .before .before in let l = low-of h in let k = cut-of l in
+      finish _ _ _ _ _ _ _ _ _ (start-of k .pre .1) _ (cut-parted k) _ _ _ _ (l .before .before .before .before .before .before .before .join .kept .1 .1 .0) (l .before .before .before .before .before .before .before .join .kept .1 .1 .1 .0) (low-is l) _ _ _ _ (h .before .before .before .before .before .before .before .join2 .kept .1 .1 .0) (h .before .before .before .before .before .before .before .join2 .kept .1 .1 .1 .0) (high-is h) _ _ (at-settle .settle .result) (at-settle .settle .ensures)
 
 pub +join-spec : {M : Type 1} → statement M
 +join-spec = close μ (λ t. join-lts.spec (told t) (at t) join.Post (split-requires t) (enum-known-step t) (enum-told t) (known-of-requires t) (same-length t) (returns t) (add-t21 t) (join-requires t) (enum-known-low t) (enum-told-2 t) (same-length-2 t) (same-length-3 t) (returns-2 t) (join-requires-2 t) (enum-known-high t) (enum-told-3 t) (same-length-4 t) (same-length-5 t) (returns-3 t) (settle-requires t) (same-length-6 t) (same-length-7 t) (returns-4 t))

@@ -32,7 +32,10 @@ add-if1 : tie.Need-add-if1 Inv-loop μ-loop
 add-if1 c = search needs
 
 returns : tie.Need-returns Inv-loop μ-loop
-returns c = recalled _ _ _ _ _ (c .before .before .before .before .before .slot .ensures .0) (c .before .before .before .loop-test .taken) (c .if1 .taken)
+returns c =
+    let at-loop-test = c .before .before .before in
+    let at-slot = at-loop-test .before .before in
+    recalled _ _ _ _ _ (at-slot .slot .ensures .0) (at-loop-test .loop-test .taken) (c .if1 .taken)
 
 add-i : tie.Need-add-i Inv-loop μ-loop
 add-i c = search needs

@@ -82,7 +82,10 @@ same-length : tie.Need-same-length
 same-length c = search needs
 
 returns : tie.Need-returns
-returns c = stores-at _ _ _ _ _ (c .before .before .before .before .before .slot .ensures .0) (c .before .before .before .before .before .before .before .pre .0) (c .before .before .before .before .before .before .before .pre .3) _ refl
+returns c =
+    let at-slot = c .before .before .before .before .before in
+    let start = at-slot .before .before in
+    stores-at _ _ _ _ _ (at-slot .slot .ensures .0) (start .pre .0) (start .pre .3) _ refl
 
 pub remember-spec : {M : Type 1} → statement M
 remember-spec =

@@ -16,10 +16,17 @@ same-length : tie.Need-same-length
 same-length c = search needs
 
 returns : tie.Need-returns
-returns c = settle-full _ _ _ _ _ _ _ (c .before .before .before .before .before .before .before .before .pre) (c .before .before .before .before .make-node .last .0) _ (c .before .before .before .before .make-node .ensures .0) (c .enum-told .given .1)
+returns c =
+    let at-make-node = c .before .before .before .before in
+    let start = at-make-node .before .before .before .before in
+    settle-full _ _ _ _ _ _ _ (start .pre) (at-make-node .make-node .last .0) _ (at-make-node .make-node .ensures .0) (c .enum-told .given .1)
 
 remember-requires : tie.Need-remember-requires
-remember-requires c κs = remember-asks _ _ _ _ _ _ _ (c .before .before .before .before .before .before .before .before .before .before .pre) (c .before .before .before .before .before .before .make-node .last .0) _ (c .before .before .before .before .before .before .make-node .ensures .0) _ _ (c .before .before .made .given .1)
+remember-requires c κs =
+    let at-made = c .before .before in
+    let at-make-node = at-made .before .before .before .before in
+    let start = at-make-node .before .before .before .before in
+    remember-asks _ _ _ _ _ _ _ (start .pre) (at-make-node .make-node .last .0) _ (at-make-node .make-node .ensures .0) _ _ (at-made .made .given .1)
 
 same-length-2 : tie.Need-same-length-2
 same-length-2 c = search needs
@@ -28,7 +35,12 @@ same-length-3 : tie.Need-same-length-3
 same-length-3 c = search needs
 
 returns-2 : tie.Need-returns-2
-returns-2 c = settled _ _ _ _ _ _ _ (c .before .before .before .before .before .before .before .before .before .before .before .before .before .pre) (c .before .before .before .before .before .before .before .before .before .make-node .last .0) _ (c .before .before .before .before .before .before .before .before .before .make-node .ensures .0) _ _ (c .before .before .before .before .before .made .given .1) _ (c .before .before .remember .ensures)
+returns-2 c =
+    let at-remember = c .before .before in
+    let at-made = at-remember .before .before .before in
+    let at-make-node = at-made .before .before .before .before in
+    let start = at-make-node .before .before .before .before in
+    settled _ _ _ _ _ _ _ (start .pre) (at-make-node .make-node .last .0) _ (at-make-node .make-node .ensures .0) _ _ (at-made .made .given .1) _ (at-remember .remember .ensures)
 
 pub settle-spec : {M : Type 1} → statement M
 settle-spec =

@@ -19,13 +19,21 @@ high-link-of-requires : tie.Need-high-link-of-requires
 high-link-of-requires c κs = search needs
 
 returns-2 : tie.Need-returns-2
-returns-2 c = step-child _ _ _ _ _ _ (c .before .before .before .before .mark-word .ensures) (c .before .before .if1 .left) (c .high-link-of .ensures ∙ ap (λ b. childOf b (nodeAt (c .before .before .before .before .before .before .args .bdd .now) (c .before .before .before .before .before .before .args .p .0))) (sym (c .before .if2 .taken)))
+returns-2 c =
+    let at-if1 = c .before .before in
+    let at-mark-word = at-if1 .before .before in
+    let start = at-mark-word .before .before in
+    step-child _ _ _ _ _ _ (at-mark-word .mark-word .ensures) (at-if1 .if1 .left) (c .high-link-of .ensures ∙ ap (λ b. childOf b (nodeAt (start .args .bdd .now) (start .args .p .0))) (sym (c .before .if2 .taken)))
 
 low-link-of-requires : tie.Need-low-link-of-requires
 low-link-of-requires c κs = search needs
 
 returns-3 : tie.Need-returns-3
-returns-3 c = step-child _ _ _ _ _ _ (c .before .before .before .before .mark-word .ensures) (c .before .before .if1 .left) (c .low-link-of .ensures ∙ ap (λ b. childOf b (nodeAt (c .before .before .before .before .before .before .args .bdd .now) (c .before .before .before .before .before .before .args .p .0))) (sym (c .before .if2 .left)))
+returns-3 c =
+    let at-if1 = c .before .before in
+    let at-mark-word = at-if1 .before .before in
+    let start = at-mark-word .before .before in
+    step-child _ _ _ _ _ _ (at-mark-word .mark-word .ensures) (at-if1 .if1 .left) (c .low-link-of .ensures ∙ ap (λ b. childOf b (nodeAt (start .args .bdd .now) (start .args .p .0))) (sym (c .before .if2 .left)))
 
 pub step-to-spec : {M : Type 1} → statement M
 step-to-spec =

@@ -14,8 +14,10 @@ same-length c = search needs
 
 returns : tie.Need-returns
 returns c =
-    let g = c .before .before .before .before .before .before .before .before .before in
-    (constants-stored (g .args .out .now) _ _ (g .args .n) (g .pre) (c .before .before .before .before .before .before .put-node .ensures) (c .before .before .put-node2 .ensures), constants-beyond (g .args .out .now) _ _ (g .args .n) (g .pre) (c .before .before .before .before .before .before .put-node .ensures) (c .before .before .put-node2 .ensures))
+    let at-put-node2 = c .before .before in
+    let at-put-node = at-put-node2 .before .before .before .before in
+    let g = at-put-node .before .before .before in
+    (constants-stored (g .args .out .now) _ _ (g .args .n) (g .pre) (at-put-node .put-node .ensures) (at-put-node2 .put-node2 .ensures), constants-beyond (g .args .out .now) _ _ (g .args .n) (g .pre) (at-put-node .put-node .ensures) (at-put-node2 .put-node2 .ensures))
 
 pub put-constants-spec : {M : Type 1} → statement M
 put-constants-spec = tie.close (tie.spec put-node-requires put-node-requires-2 same-length returns)

@@ -11,10 +11,16 @@ enum-known-tabled : tie.Need-enum-known-tabled
 enum-known-tabled c = search needs
 
 mul-zero-u32-from : tie.Need-mul-zero-u32-from
-mul-zero-u32-from c = record { fits = omega (arith, table-within _ _ _ (c .before .before .tabled .given .1) (c .before .before .before .before .before .before .before .before .before .before .pre)) }
+mul-zero-u32-from c =
+    let at-tabled = c .before .before in
+    let start = at-tabled .before .before .before .before .before .before .before .before in
+    record { fits = omega (arith, table-within _ _ _ (at-tabled .tabled .given .1) (start .pre)) }
 
 zero-u32-from-requires-2 : tie.Need-zero-u32-from-requires-2
-zero-u32-from-requires-2 c κs = table-within _ _ _ (c .before .before .tabled .given .1) (c .before .before .before .before .before .before .before .before .before .before .pre)
+zero-u32-from-requires-2 c κs =
+    let at-tabled = c .before .before in
+    let start = at-tabled .before .before .before .before .before .before .before .before in
+    table-within _ _ _ (at-tabled .tabled .given .1) (start .pre)
 
 enum-known-tabled-2 : tie.Need-enum-known-tabled-2
 enum-known-tabled-2 c = search needs
@@ -29,7 +35,11 @@ same-length-2 : tie.Need-same-length-2
 same-length-2 c = search needs
 
 returns : tie.Need-returns
-returns c = settled-count _ _ _ _ _ _ (c .before .before .before .before .before .tabled .given .1) (c .before .before .zero-u32-from2 .ensures) (c .before .before .before .before .before .before .before .before .before .zero-u32-from .ensures)
+returns c =
+    let at-zero-u32-from2 = c .before .before in
+    let at-tabled = at-zero-u32-from2 .before .before .before in
+    let at-zero-u32-from = at-tabled .before .before .before .before in
+    settled-count _ _ _ _ _ _ (at-tabled .tabled .given .1) (at-zero-u32-from2 .zero-u32-from2 .ensures) (at-zero-u32-from .zero-u32-from .ensures)
 
 same-length-3 : tie.Need-same-length-3
 same-length-3 c = search needs
@@ -38,7 +48,11 @@ same-length-4 : tie.Need-same-length-4
 same-length-4 c = search needs
 
 returns-2 : tie.Need-returns-2
-returns-2 c = settled-over _ _ _ _ _ _ (c .before .before .before .before .before .tabled2 .given .1) (c .before .before .zero-u32-from3 .ensures) (c .before .before .before .before .before .before .before .before .before .zero-u32-from .ensures)
+returns-2 c =
+    let at-zero-u32-from3 = c .before .before in
+    let at-tabled2 = at-zero-u32-from3 .before .before .before in
+    let at-zero-u32-from = at-tabled2 .before .before .before .before in
+    settled-over _ _ _ _ _ _ (at-tabled2 .tabled2 .given .1) (at-zero-u32-from3 .zero-u32-from3 .ensures) (at-zero-u32-from .zero-u32-from .ensures)
 
 pub settle-spec : {M : Type 1} → statement M
 settle-spec =

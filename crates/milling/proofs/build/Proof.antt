@@ -21,18 +21,22 @@ same-length c = search needs
 
 returns : tie.Need-returns
 returns c =
-    let g = c .before .before .before .before .before .before .before .before .before in
-    let made = c .before .before .before .mk-dnf in
-    built-as _ _ (builds-dnf (g .args .n) (g .args .count) (g .args .clauses .now) (g .args .dnf) (c .before .before .before .before .before .before .if1 .taken) _ _ (g .pre) refl) _ _ _ (made .ensures .0) (made .ensures .1 .0)
+    let at-mk-dnf = c .before .before .before in
+    let at-if1 = at-mk-dnf .before .before .before in
+    let g = at-if1 .before .before .before in
+    let made = at-mk-dnf .mk-dnf in
+    built-as _ _ (builds-dnf (g .args .n) (g .args .count) (g .args .clauses .now) (g .args .dnf) (at-if1 .if1 .taken) _ _ (g .pre) refl) _ _ _ (made .ensures .0) (made .ensures .1 .0)
 
 same-length-2 : tie.Need-same-length-2
 same-length-2 c = search needs
 
 returns-2 : tie.Need-returns-2
 returns-2 c =
-    let g = c .before .before .before .before .before .before .before .before .before in
-    let made = c .before .before .before .mk-cnf in
-    built-as _ _ (builds-cnf (g .args .n) (g .args .count) (g .args .clauses .now) (g .args .dnf) (c .before .before .before .before .before .before .if1 .left) _ _ (g .pre) refl) _ _ _ (made .ensures .0) (made .ensures .1 .0)
+    let at-mk-cnf = c .before .before .before in
+    let at-if1 = at-mk-cnf .before .before .before in
+    let g = at-if1 .before .before .before in
+    let made = at-mk-cnf .mk-cnf in
+    built-as _ _ (builds-cnf (g .args .n) (g .args .count) (g .args .clauses .now) (g .args .dnf) (at-if1 .if1 .left) _ _ (g .pre) refl) _ _ _ (made .ensures .0) (made .ensures .1 .0)
 
 pub build-spec : {M : Type 1} → statement M
 build-spec =

@@ -21,10 +21,12 @@ slice-aggregate-put-whole c = search needs
 
 put-whole-requires : tie.Need-put-whole-requires
 put-whole-requires c κs =
-    let g = c .before .before .before .before .before .before .before .before .before .before .before .before .before in
-    let cnf = c .before .before .before .before .before .before .before .to-cnf in
-    let few = listed-few false (g .args .n) (g .args .count) (g .args .table .now) _ (cnf .ensures .0) _ (c .before .before .before .listed .given .1) in
-    let within = listed-within false (g .args .n) (g .args .count) (g .args .table .now) _ (cnf .ensures .0) _ (c .before .before .before .listed .given .1) (cnf .last .1 .1 .1 .0) (cnf .kept .1 .1 .1 .0) in
+    let at-listed = c .before .before .before in
+    let at-to-cnf = at-listed .before .before .before .before in
+    let g = at-to-cnf .before .before .before .before .before .before in
+    let cnf = at-to-cnf .to-cnf in
+    let few = listed-few false (g .args .n) (g .args .count) (g .args .table .now) _ (cnf .ensures .0) _ (at-listed .listed .given .1) in
+    let within = listed-within false (g .args .n) (g .args .count) (g .args .table .now) _ (cnf .ensures .0) _ (at-listed .listed .given .1) (cnf .last .1 .1 .1 .0) (cnf .kept .1 .1 .1 .0) in
     (g .pre .0, g .pre .2, within, g .pre .1, few, g .pre .3)
 
 enum-known-refusal : tie.Need-enum-known-refusal
@@ -38,17 +40,23 @@ same-length c = search needs
 
 returns : tie.Need-returns
 returns c =
-    let g = c .before .before .before .before .before .before .before .before .before .before .before .before .before .before .before .before in
-    let cnf = c .before .before .before .before .before .before .before .before .before .before .to-cnf in
-    prints-is _ _ _ _ _ (cnf-goes (g .args .n) (g .args .count) (g .args .table .now) (g .args .dnf-count) (g .args .dnf .now) _ (cnf .ensures .0) _ (c .before .before .before .before .before .before .listed .given .1) _ (cnf .ensures .1 .0)) (c .before .before .put-whole .ensures)
+    let at-put-whole = c .before .before in
+    let at-listed = at-put-whole .before .before .before .before in
+    let at-to-cnf = at-listed .before .before .before .before in
+    let g = at-to-cnf .before .before .before .before .before .before in
+    let cnf = at-to-cnf .to-cnf in
+    prints-is _ _ _ _ _ (cnf-goes (g .args .n) (g .args .count) (g .args .table .now) (g .args .dnf-count) (g .args .dnf .now) _ (cnf .ensures .0) _ (at-listed .listed .given .1) _ (cnf .ensures .1 .0)) (at-put-whole .put-whole .ensures)
 
 same-length-2 : tie.Need-same-length-2
 same-length-2 c = search needs
 
 returns-2 : tie.Need-returns-2
 returns-2 c =
-    let g = c .before .before .before .before .before .before .before .before .before .before .before .before .before .before .before in
-    prints-is _ _ _ _ _ (cnf-refused (g .args .n) (g .args .count) (g .args .table .now) (g .args .dnf-count) (g .args .dnf .now) _ (c .before .before .before .before .before .before .before .before .before .to-cnf .ensures .0) _ (c .before .before .before .before .before .refusal .given .1)) (c .before .before .put-refusal .ensures)
+    let at-put-refusal = c .before .before in
+    let at-refusal = at-put-refusal .before .before .before in
+    let at-to-cnf = at-refusal .before .before .before .before in
+    let g = at-to-cnf .before .before .before .before .before .before in
+    prints-is _ _ _ _ _ (cnf-refused (g .args .n) (g .args .count) (g .args .table .now) (g .args .dnf-count) (g .args .dnf .now) _ (at-to-cnf .to-cnf .ensures .0) _ (at-refusal .refusal .given .1)) (at-put-refusal .put-refusal .ensures)
 
 pub mill-cnf-spec : {M : Type 1} → statement M
 mill-cnf-spec =

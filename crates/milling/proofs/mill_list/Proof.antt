@@ -29,17 +29,23 @@ same-length c = search needs
 
 returns : tie.Need-returns
 returns c =
-    let g = c .before .before .before .before .before .before .before .before .before .before .before .before .before in
-    let built = c .before .before .before .before .before .before .before .before .before .build in
-    prints-is _ _ _ _ _ (build-goes (g .args .n) (g .args .count) (g .args .clauses .now) (g .args .dnf) _ (built .ensures .0) _ (c .before .before .before .before .before .before .made .given .1) _ (built .ensures .1)) (c .before .before .mill-table .ensures)
+    let at-mill-table = c .before .before in
+    let at-made = at-mill-table .before .before .before .before in
+    let at-build = at-made .before .before .before in
+    let g = at-build .before .before .before .before in
+    let built = at-build .build in
+    prints-is _ _ _ _ _ (build-goes (g .args .n) (g .args .count) (g .args .clauses .now) (g .args .dnf) _ (built .ensures .0) _ (at-made .made .given .1) _ (built .ensures .1)) (at-mill-table .mill-table .ensures)
 
 same-length-2 : tie.Need-same-length-2
 same-length-2 c = search needs
 
 returns-2 : tie.Need-returns-2
 returns-2 c =
-    let g = c .before .before .before .before .before .before .before .before .before .before .before .before in
-    prints-is _ _ _ _ _ (build-refused (g .args .n) (g .args .count) (g .args .clauses .now) (g .args .dnf) _ (c .before .before .before .before .before .before .before .before .build .ensures .0) _ (c .before .before .before .before .before .refusal .given .1)) (c .before .before .put-refusal .ensures)
+    let at-put-refusal = c .before .before in
+    let at-refusal = at-put-refusal .before .before .before in
+    let at-build = at-refusal .before .before .before in
+    let g = at-build .before .before .before .before in
+    prints-is _ _ _ _ _ (build-refused (g .args .n) (g .args .count) (g .args .clauses .now) (g .args .dnf) _ (at-build .build .ensures .0) _ (at-refusal .refusal .given .1)) (at-put-refusal .put-refusal .ensures)
 
 pub mill-list-spec : {M : Type 1} → statement M
 mill-list-spec =

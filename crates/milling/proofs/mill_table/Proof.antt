@@ -21,10 +21,12 @@ slice-aggregate-mill-cnf c = search needs
 
 mill-cnf-requires : tie.Need-mill-cnf-requires
 mill-cnf-requires c κs =
-    let g = c .before .before .before .before .before .before .before .before .before .before .before .before in
-    let dnf = c .before .before .before .before .before .before .before .to-dnf in
-    let few = listed-few true (g .args .n) (g .args .count) (g .args .table .now) _ (dnf .ensures .0) _ (c .before .before .before .listed .given .1) in
-    let within = listed-within true (g .args .n) (g .args .count) (g .args .table .now) _ (dnf .ensures .0) _ (c .before .before .before .listed .given .1) (dnf .last .1 .1 .1 .0) (dnf .kept .1 .1 .1 .0) in
+    let at-listed = c .before .before .before in
+    let at-to-dnf = at-listed .before .before .before .before in
+    let g = at-to-dnf .before .before .before .before .before in
+    let dnf = at-to-dnf .to-dnf in
+    let few = listed-few true (g .args .n) (g .args .count) (g .args .table .now) _ (dnf .ensures .0) _ (at-listed .listed .given .1) in
+    let within = listed-within true (g .args .n) (g .args .count) (g .args .table .now) _ (dnf .ensures .0) _ (at-listed .listed .given .1) (dnf .last .1 .1 .1 .0) (dnf .kept .1 .1 .1 .0) in
     (g .pre .0, few, within, g .pre .1)
 
 enum-known-refusal : tie.Need-enum-known-refusal
@@ -38,17 +40,23 @@ same-length c = search needs
 
 returns : tie.Need-returns
 returns c =
-    let g = c .before .before .before .before .before .before .before .before .before .before .before .before .before .before .before in
-    let dnf = c .before .before .before .before .before .before .before .before .before .before .to-dnf in
-    prints-is _ _ _ _ _ (dnf-goes (g .args .n) (g .args .count) (g .args .table .now) _ (dnf .ensures .0) _ (c .before .before .before .before .before .before .listed .given .1) _ (dnf .ensures .1 .0)) (c .before .before .mill-cnf .ensures)
+    let at-mill-cnf = c .before .before in
+    let at-listed = at-mill-cnf .before .before .before .before in
+    let at-to-dnf = at-listed .before .before .before .before in
+    let g = at-to-dnf .before .before .before .before .before in
+    let dnf = at-to-dnf .to-dnf in
+    prints-is _ _ _ _ _ (dnf-goes (g .args .n) (g .args .count) (g .args .table .now) _ (dnf .ensures .0) _ (at-listed .listed .given .1) _ (dnf .ensures .1 .0)) (at-mill-cnf .mill-cnf .ensures)
 
 same-length-2 : tie.Need-same-length-2
 same-length-2 c = search needs
 
 returns-2 : tie.Need-returns-2
 returns-2 c =
-    let g = c .before .before .before .before .before .before .before .before .before .before .before .before .before .before in
-    prints-is _ _ _ _ _ (dnf-refused (g .args .n) (g .args .count) (g .args .table .now) _ (c .before .before .before .before .before .before .before .before .before .to-dnf .ensures .0) _ (c .before .before .before .before .before .refusal .given .1)) (c .before .before .put-refusal .ensures)
+    let at-put-refusal = c .before .before in
+    let at-refusal = at-put-refusal .before .before .before in
+    let at-to-dnf = at-refusal .before .before .before .before in
+    let g = at-to-dnf .before .before .before .before .before in
+    prints-is _ _ _ _ _ (dnf-refused (g .args .n) (g .args .count) (g .args .table .now) _ (at-to-dnf .to-dnf .ensures .0) _ (at-refusal .refusal .given .1)) (at-put-refusal .put-refusal .ensures)
 
 pub mill-table-spec : {M : Type 1} → statement M
 mill-table-spec =

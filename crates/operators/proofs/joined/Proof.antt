@@ -8,7 +8,9 @@ join-tables-requires : tie.Need-join-tables-requires
 join-tables-requires c κs = search needs
 
 settle-requires : tie.Need-settle-requires
-settle-requires c κs = leaves-settling _ _ _ _ (c .before .before .before .before .before .before .join-tables .result) (c .before .before .before .before .before .before .join-tables .ensures)
+settle-requires c κs =
+    let at-join-tables = c .before .before .before .before .before .before in
+    leaves-settling _ _ _ _ (at-join-tables .join-tables .result) (at-join-tables .join-tables .ensures)
 
 same-length : tie.Need-same-length
 same-length c = search needs
@@ -17,7 +19,10 @@ same-length-2 : tie.Need-same-length-2
 same-length-2 c = search needs
 
 returns : tie.Need-returns
-returns c = joined-outcome _ _ _ _ _ _ _ _ _ (c .before .before .before .before .before .before .before .before .before .before .before .join-tables .kept .1 .1 .0) (c .before .before .before .before .before .before .before .before .before .before .before .join-tables .kept .1 .1 .1 .0) (c .before .before .before .before .before .before .before .before .before .before .before .join-tables .result) _ (c .before .before .before .before .before .before .before .before .before .before .before .join-tables .ensures) (c .before .before .before .before .settle .ensures)
+returns c =
+    let at-settle = c .before .before .before .before in
+    let at-join-tables = at-settle .before .before .before .before .before .before .before in
+    joined-outcome _ _ _ _ _ _ _ _ _ (at-join-tables .join-tables .kept .1 .1 .0) (at-join-tables .join-tables .kept .1 .1 .1 .0) (at-join-tables .join-tables .result) _ (at-join-tables .join-tables .ensures) (at-settle .settle .ensures)
 
 pub joined-spec : {M : Type 1} → statement M
 joined-spec =

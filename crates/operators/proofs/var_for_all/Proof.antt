@@ -27,13 +27,17 @@ same-length-2 c = search needs
 returns : tie.Need-returns
 unfolding makesForAll
 returns c =
-    let g = c .before .before .before .before .before .before .before .before .before .args in
-    equations _ _ _ _ _ _ (mark-refused (g .n) (g .count) (g .nodes .now) (g .room) (g .out .now) (g .work .now) (g .variable) _ (c .before .before .before .admit-table-room-mark .ensures) _ _ _ (c .before .enum-told2 .given .1) (c .refusal-of .ensures))
+    let at-admit-table-room-mark = c .before .before .before in
+    let start = at-admit-table-room-mark .before .before .before .before .before .before in
+    let g = start .args in
+    equations _ _ _ _ _ _ (mark-refused (g .n) (g .count) (g .nodes .now) (g .room) (g .out .now) (g .work .now) (g .variable) _ (at-admit-table-room-mark .admit-table-room-mark .ensures) _ _ _ (c .before .enum-told2 .given .1) (c .refusal-of .ensures))
 
 mark-job-requires : tie.Need-mark-job-requires
 mark-job-requires c κs =
-    let g = c .before .before .before .before .before .before .before .before .args in
-    mark-few (g .n) (g .count) (g .nodes .now) (g .room) (g .out .now) (g .work .now) (g .variable) _ (c .before .before .admit-table-room-mark .ensures) _ (c .enum-told .given .1)
+    let at-admit-table-room-mark = c .before .before in
+    let start = at-admit-table-room-mark .before .before .before .before .before .before in
+    let g = start .args in
+    mark-few (g .n) (g .count) (g .nodes .now) (g .room) (g .out .now) (g .work .now) (g .variable) _ (at-admit-table-room-mark .admit-table-room-mark .ensures) _ (c .enum-told .given .1)
 
 joined-requires : tie.Need-joined-requires
 joined-requires c κs =
@@ -50,10 +54,12 @@ same-length-4 c = search needs
 returns-2 : tie.Need-returns-2
 unfolding makesForAll
 returns-2 c =
-    let passed = c .before .before .before .before .before .before .before .before in
+    let at-joined = c .before .before .before .before in
+    let at-mark-job = at-joined .before .before .before in
+    let passed = at-mark-job .before in
     let g = passed .before .before .before .before .before .before .before .before .args in
     equations _ _ _ _ _ _
-    (mark-outcome (g .n) (g .count) (g .nodes .now) (g .room) (g .out .now) (g .work .now) (g .variable) _ (passed .before .before .admit-table-room-mark .ensures) _ (passed .enum-told .given .1) _ _ and-table _ (c .before .before .before .before .before .before .before .mark-job .ensures) _ _ _ (c .before .before .before .before .joined .ensures))
+    (mark-outcome (g .n) (g .count) (g .nodes .now) (g .room) (g .out .now) (g .work .now) (g .variable) _ (passed .before .before .admit-table-room-mark .ensures) _ (passed .enum-told .given .1) _ _ and-table _ (at-mark-job .mark-job .ensures) _ _ _ (at-joined .joined .ensures))
 
 pub var-for-all-spec : {M : Type 1} → statement M
 var-for-all-spec =

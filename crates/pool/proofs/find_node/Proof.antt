@@ -39,15 +39,17 @@ loop-less c = omega arith
 
 loop-again : tie.Need-loop-again Inv-loop μ-loop
 loop-again c =
-    let i = c .before .before .before .loop .inv in (
+    let at-loop = c .before .before .before in
+    let start = at-loop .before .before .before in
+    let i = at-loop .loop .inv in (
       omega (arith, i .0),
       search needs,
       i .2,
-      λ j a b. elim (decLt j (c .before .before .before .loop .i)) [
+      λ j a b. elim (decLt j (at-loop .loop .i)) [
         | yes h ↦ i .3 j a h
         | no h ↦ λ e.
-            let z : c .before .before .before .loop .i ≡ j = omega arith in
-            differs _ _ (sym (c .before .is-node .ensures) ∙ c .if1 .left) (ap (nodeAt (c .before .before .before .before .before .before .args .bdd .now)) z ∙ e)
+            let z : at-loop .loop .i ≡ j = omega arith in
+            differs _ _ (sym (c .before .is-node .ensures) ∙ c .if1 .left) (ap (nodeAt (start .args .bdd .now)) z ∙ e)
       ],
     )
 

@@ -9,8 +9,10 @@ low-link-of-requires c κs = search needs
 
 returns : tie.Need-returns
 returns c =
-    let g = c .before .before .before .before .before .args in
-    low-tells (nodeAt (g .bdd .now) (g .p .0)) (g .variable .0) (g .low .0) (g .high .0) _ (c .before .before .before .low-link-of .ensures) (c .if1 .taken)
+    let at-low-link-of = c .before .before .before in
+    let start = at-low-link-of .before .before in
+    let g = start .args in
+    low-tells (nodeAt (g .bdd .now) (g .p .0)) (g .variable .0) (g .low .0) (g .high .0) _ (at-low-link-of .low-link-of .ensures) (c .if1 .taken)
 
 same-node-requires : tie.Need-same-node-requires
 same-node-requires c κs = search needs

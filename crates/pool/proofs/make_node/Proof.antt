@@ -10,7 +10,9 @@ returns : tie.Need-returns
 returns c = (node-same _ _ _ _ _ _ _ (c .before .before .before .before .pre) (c .if1 .taken), λ i h. refl)
 
 find-node-requires : tie.Need-find-node-requires
-find-node-requires c κs = (omega (arith, c .before .before .before .before .before .pre .pushing .long, c .before .before .before .before .before .pre .pushing .fits), low-in _ _ _ _ _ _ _ (c .before .before .before .before .before .pre), high-in _ _ _ _ _ _ _ (c .before .before .before .before .before .pre))
+find-node-requires c κs =
+    let start = c .before .before .before .before .before in
+    (omega (arith, start .pre .pushing .long, start .pre .pushing .fits), low-in _ _ _ _ _ _ _ (start .pre), high-in _ _ _ _ _ _ _ (start .pre))
 
 enum-known-found : tie.Need-enum-known-found
 enum-known-found c = search needs
@@ -19,7 +21,11 @@ same-length : tie.Need-same-length
 same-length c = search needs
 
 returns-2 : tie.Need-returns-2
-returns-2 c = (node-hit _ _ _ _ _ _ _ (c .before .before .before .before .before .before .before .before .before .pre) (c .before .before .before .before .before .if1 .left) (c .before .found .given .0 .0 .0) (subst (λ z. Searched (c .before .before .before .before .before .before .before .before .before .args .bdd .now) (c .before .before .before .before .before .before .before .before .before .args .count) (c .before .before .before .before .before .before .before .before .before .args .variable .0) (c .before .before .before .before .before .before .before .before .before .args .low .0) (c .before .before .before .before .before .before .before .before .before .args .high .0) z) (c .before .found .given .1) (c .before .before .before .find-node .ensures)), λ i h. refl)
+returns-2 c =
+    let at-find-node = c .before .before .before in
+    let at-if1 = at-find-node .before .before in
+    let start = at-if1 .before .before .before .before in
+    (node-hit _ _ _ _ _ _ _ (start .pre) (at-if1 .if1 .left) (c .before .found .given .0 .0 .0) (subst (λ z. Searched (start .args .bdd .now) (start .args .count) (start .args .variable .0) (start .args .low .0) (start .args .high .0) z) (c .before .found .given .1) (at-find-node .find-node .ensures)), λ i h. refl)
 
 enum-told : tie.Need-enum-told
 enum-told c = search needs
@@ -31,7 +37,13 @@ same-length-2 : tie.Need-same-length-2
 same-length-2 c = search needs
 
 returns-3 : tie.Need-returns-3
-returns-3 c = (node-pushed _ _ _ _ _ _ _ (c .before .before .before .before .before .before .before .before .before .before .before .before .pre) (c .before .before .before .before .before .before .before .before .if1 .left) _ (c .before .before .before .before .before .before .find-node .ensures) (c .before .before .before .before .enum-told .given .1) (c .before .before .push-node .last .0) (c .before .before .push-node .result) (c .before .before .push-node .ensures .0), c .before .before .push-node .ensures .1)
+returns-3 c =
+    let at-push-node = c .before .before in
+    let at-enum-told = at-push-node .before .before in
+    let at-find-node = at-enum-told .before .before in
+    let at-if1 = at-find-node .before .before in
+    let start = at-if1 .before .before .before .before in
+    (node-pushed _ _ _ _ _ _ _ (start .pre) (at-if1 .if1 .left) _ (at-find-node .find-node .ensures) (at-enum-told .enum-told .given .1) (at-push-node .push-node .last .0) (at-push-node .push-node .result) (at-push-node .push-node .ensures .0), at-push-node .push-node .ensures .1)
 
 pub make-node-spec : {M : Type 1} → statement M
 make-node-spec =

@@ -17,7 +17,11 @@ same-length : tie.Need-same-length
 same-length c = search needs
 
 returns-2 : tie.Need-returns-2
-returns-2 c = (push-made _ _ _ _ _ _ (c .before .before .before .before .before .before .pre) (c .before .before .before .before .if1 .left) _ (c .before .before .put-node .ensures), beyond-push (c .before .before .before .before .before .before .args .room) (c .before .before .before .before .before .before .args .count) (c .before .before .before .before .before .before .args .variable .0) (c .before .before .before .before .before .before .args .low .0) (c .before .before .before .before .before .before .args .high .0) (c .before .before .before .before .before .before .args .bdd .now) _ (c .before .before .before .before .if1 .left) (c .before .before .put-node .ensures))
+returns-2 c =
+    let at-put-node = c .before .before in
+    let at-if1 = at-put-node .before .before in
+    let start = at-if1 .before .before in
+    (push-made _ _ _ _ _ _ (start .pre) (at-if1 .if1 .left) _ (at-put-node .put-node .ensures), beyond-push (start .args .room) (start .args .count) (start .args .variable .0) (start .args .low .0) (start .args .high .0) (start .args .bdd .now) _ (at-if1 .if1 .left) (at-put-node .put-node .ensures))
 
 pub push-node-spec : {M : Type 1} → statement M
 push-node-spec = tie.close (tie.spec returns put-node-requires add-t12 same-length returns-2)

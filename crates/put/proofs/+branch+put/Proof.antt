@@ -44,16 +44,26 @@ put-told t = (split-reads.Asked, split-reads.Learnt, branch-below t, branch.Post
 
 module _ (t : ℕ) where
   low-is : (c : branch-lts.After-known-told (branch-told t) (branch-at t) branch.Post) → Put (c .before .before .before .before .before .before .before .before .before .args .work .now) (c .before .before .before .before .before .put .last .0) (c .before .before .before .before .before .before .before .before .before .args .job) (c .before .before .before .before .before .before .before .before .before .args .cut .variable .0 + 1) (c .before .before .before .before .before .before .before .before .before .args .count) (c .before .before .before .before .before .before .before .before .before .args .cut .low .0) (c .before .before .before .before .before .before .before .before .before .args .cut .lowkept) (c .before .lo .given .0 .0 .0) (c .before .lo .given .0 .1 .0)
-  low-is c = subst (λ z. Puts (c .before .before .before .before .before .before .before .before .before .args .work .now) (c .before .before .before .before .before .put .last .0) (c .before .before .before .before .before .before .before .before .before .args .job) (c .before .before .before .before .before .before .before .before .before .args .cut .variable .0 + 1) (c .before .before .before .before .before .before .before .before .before .args .count) (c .before .before .before .before .before .before .before .before .before .args .cut .low .0) (c .before .before .before .before .before .before .before .before .before .args .cut .lowkept) z) (c .before .lo .given .1) (c .before .before .before .before .before .put .ensures)
+  low-is c =
+      let at-put = c .before .before .before .before .before in
+      let start = at-put .before .before .before .before in
+      subst (λ z. Puts (start .args .work .now) (at-put .put .last .0) (start .args .job) (start .args .cut .variable .0 + 1) (start .args .count) (start .args .cut .low .0) (start .args .cut .lowkept) z) (c .before .lo .given .1) (at-put .put .ensures)
 
   high-is : (c : branch-lts.After-known-told2 (branch-told t) (branch-at t) branch.Post) → Put (c .before .before .before .before .before .before .before .before .before .before .before .before .before .put .last .0) (c .before .before .before .before .before .put2 .last .0) (c .before .before .before .before .before .before .before .before .before .before .before .before .before .before .before .before .before .args .job) (c .before .before .before .before .before .before .before .before .before .before .before .before .before .before .before .before .before .args .cut .variable .0 + 1) (c .before .before .before .before .before .before .before .before .before .lo .given .0 .1 .0) (c .before .before .before .before .before .before .before .before .before .before .before .before .before .before .before .before .before .args .cut .high .0) (c .before .before .before .before .before .before .before .before .before .before .before .before .before .before .before .before .before .args .cut .highkept) (c .before .hi .given .0 .0 .0) (c .before .hi .given .0 .1 .0)
-  high-is c = subst (λ z. Puts (c .before .before .before .before .before .before .before .before .before .before .before .before .before .put .last .0) (c .before .before .before .before .before .put2 .last .0) (c .before .before .before .before .before .before .before .before .before .before .before .before .before .before .before .before .before .args .job) (c .before .before .before .before .before .before .before .before .before .before .before .before .before .before .before .before .before .args .cut .variable .0 + 1) (c .before .before .before .before .before .before .before .before .before .lo .given .0 .1 .0) (c .before .before .before .before .before .before .before .before .before .before .before .before .before .before .before .before .before .args .cut .high .0) (c .before .before .before .before .before .before .before .before .before .before .before .before .before .before .before .before .before .args .cut .highkept) z) (c .before .hi .given .1) (c .before .before .before .before .before .put2 .ensures)
+  high-is c =
+      let at-put2 = c .before .before .before .before .before in
+      let at-lo = at-put2 .before .before .before .before in
+      let at-put = at-lo .before .before .before .before in
+      let start = at-put .before .before .before .before in
+      subst (λ z. Puts (at-put .put .last .0) (at-put2 .put2 .last .0) (start .args .job) (start .args .cut .variable .0 + 1) (at-lo .lo .given .0 .1 .0) (start .args .cut .high .0) (start .args .cut .highkept) z) (c .before .hi .given .1) (at-put2 .put2 .ensures)
 
   branch-add-put : branch-lts.Need-add-put (branch-told t) (branch-at t) branch.Post
   branch-add-put c = record { fits = omega (arith, c .before .before .before .pre .1 .parted .below, c .before .before .before .pre .1 .ready .marks) }
 
   branch-put-requires : branch-lts.Need-put-requires (branch-told t) (branch-at t) branch.Post
-  branch-put-requires c κs = (omega (arith, c .before .before .before .pre .0, c .before .before .before .pre .1 .parted .below), ready-lo _ _ _ _ _ _ (c .before .before .before .pre .1 .ready) _ (c .before .before .before .pre .1 .parted))
+  branch-put-requires c κs =
+      let start = c .before .before .before in
+      (omega (arith, start .pre .0, start .pre .1 .parted .below), ready-lo _ _ _ _ _ _ (start .pre .1 .ready) _ (start .pre .1 .parted))
 
   branch-enum-known-lo : branch-lts.Need-enum-known-lo (branch-told t) (branch-at t) branch.Post
   branch-enum-known-lo c = search needs
@@ -65,13 +75,21 @@ module _ (t : ℕ) where
   branch-same-length c = search needs
 
   branch-returns : branch-lts.Need-returns (branch-told t) (branch-at t) branch.Post
-  branch-returns c = full-lo _ _ _ _ _ _ (c .before .before .before .before .before .before .before .before .pre .1 .ready) _ (c .before .before .before .before .before .before .before .before .pre .1 .parted) (subst (λ z. Puts (c .before .before .before .before .before .before .before .before .args .work .now) (c .before .before .before .before .put .last .0) (c .before .before .before .before .before .before .before .before .args .job) (c .before .before .before .before .before .before .before .before .args .cut .variable .0 + 1) (c .before .before .before .before .before .before .before .before .args .count) (c .before .before .before .before .before .before .before .before .args .cut .low .0) (c .before .before .before .before .before .before .before .before .args .cut .lowkept) z) (c .enum-told .given .1) (c .before .before .before .before .put .ensures))
+  branch-returns c =
+      let at-put = c .before .before .before .before in
+      let start = at-put .before .before .before .before in
+      full-lo _ _ _ _ _ _ (start .pre .1 .ready) _ (start .pre .1 .parted) (subst (λ z. Puts (start .args .work .now) (at-put .put .last .0) (start .args .job) (start .args .cut .variable .0 + 1) (start .args .count) (start .args .cut .low .0) (start .args .cut .lowkept) z) (c .enum-told .given .1) (at-put .put .ensures))
 
   branch-add-put-2 : branch-lts.Need-add-put-2 (branch-told t) (branch-at t) branch.Post
-  branch-add-put-2 c = record { fits = omega (arith, c .before .before .before .before .before .before .before .before .before .before .before .pre .1 .parted .below, c .before .before .before .before .before .before .before .before .before .before .before .pre .1 .ready .marks) }
+  branch-add-put-2 c =
+      let start = c .before .before .before .before .before .before .before .before .before .before .before in
+      record { fits = omega (arith, start .pre .1 .parted .below, start .pre .1 .ready .marks) }
 
   branch-put-requires-2 : branch-lts.Need-put-requires-2 (branch-told t) (branch-at t) branch.Post
-  branch-put-requires-2 c κs = (omega (arith, c .before .before .before .before .before .before .before .before .before .before .before .pre .0, c .before .before .before .before .before .before .before .before .before .before .before .pre .1 .parted .below), ready-hi _ _ _ _ _ _ (c .before .before .before .before .before .before .before .before .before .before .before .pre .1 .ready) _ (c .before .before .before .before .before .before .before .before .before .before .before .pre .1 .parted) _ _ _ (c .before .before .before .before .before .before .before .put .kept .0) (low-is (c .before .before)))
+  branch-put-requires-2 c κs =
+      let at-put = c .before .before .before .before .before .before .before in
+      let start = at-put .before .before .before .before in
+      (omega (arith, start .pre .0, start .pre .1 .parted .below), ready-hi _ _ _ _ _ _ (start .pre .1 .ready) _ (start .pre .1 .parted) _ _ _ (at-put .put .kept .0) (low-is (c .before .before)))
 
   branch-enum-known-hi : branch-lts.Need-enum-known-hi (branch-told t) (branch-at t) branch.Post
   branch-enum-known-hi c = search needs
@@ -83,20 +101,37 @@ module _ (t : ℕ) where
   branch-same-length-2 c = search needs
 
   branch-returns-2 : branch-lts.Need-returns-2 (branch-told t) (branch-at t) branch.Post
-  branch-returns-2 c = full-hi _ _ _ _ _ _ (c .before .before .before .before .before .before .before .before .before .before .before .before .before .before .before .before .pre .1 .ready) _ (c .before .before .before .before .before .before .before .before .before .before .before .before .before .before .before .before .pre .1 .parted) _ _ _ (c .before .before .before .before .before .before .before .before .before .before .before .before .put .kept .0) (low-is (c .before .before .before .before .before .before .before)) (subst (λ z. Puts (c .before .before .before .before .before .before .before .before .before .before .before .before .put .last .0) (c .before .before .before .before .put2 .last .0) (c .before .before .before .before .before .before .before .before .before .before .before .before .before .before .before .before .args .job) (c .before .before .before .before .before .before .before .before .before .before .before .before .before .before .before .before .args .cut .variable .0 + 1) (c .before .before .before .before .before .before .before .before .lo .given .0 .1 .0) (c .before .before .before .before .before .before .before .before .before .before .before .before .before .before .before .before .args .cut .high .0) (c .before .before .before .before .before .before .before .before .before .before .before .before .before .before .before .before .args .cut .highkept) z) (c .enum-told2 .given .1) (c .before .before .before .before .put2 .ensures))
+  branch-returns-2 c =
+      let at-put2 = c .before .before .before .before in
+      let at-lo = at-put2 .before .before .before .before in
+      let at-put = at-lo .before .before .before .before in
+      let start = at-put .before .before .before .before in
+      full-hi _ _ _ _ _ _ (start .pre .1 .ready) _ (start .pre .1 .parted) _ _ _ (at-put .put .kept .0) (low-is (at-put2 .before .before .before)) (subst (λ z. Puts (at-put .put .last .0) (at-put2 .put2 .last .0) (start .args .job) (start .args .cut .variable .0 + 1) (at-lo .lo .given .0 .1 .0) (start .args .cut .high .0) (start .args .cut .highkept) z) (c .enum-told2 .given .1) (at-put2 .put2 .ensures))
 
   branch-settle-requires : branch-lts.Need-settle-requires (branch-told t) (branch-at t) branch.Post
-  branch-settle-requires c κs = settling _ _ _ _ _ _ (c .before .before .before .before .before .before .before .before .before .before .before .before .before .before .before .before .before .before .pre .1 .ready) _ (c .before .before .before .before .before .before .before .before .before .before .before .before .before .before .before .before .before .before .pre .1 .parted) _ _ _ (c .before .before .before .before .before .before .before .before .before .before .before .before .before .before .put .kept .0) (low-is (c .before .before .before .before .before .before .before .before .before)) _ _ _ (c .before .before .before .before .before .before .put2 .kept .0) (high-is (c .before))
+  branch-settle-requires c κs =
+      let at-put2 = c .before .before .before .before .before .before in
+      let at-put = at-put2 .before .before .before .before .before .before .before .before in
+      let start = at-put .before .before .before .before in
+      settling _ _ _ _ _ _ (start .pre .1 .ready) _ (start .pre .1 .parted) _ _ _ (at-put .put .kept .0) (low-is (at-put2 .before .before .before)) _ _ _ (at-put2 .put2 .kept .0) (high-is (c .before))
 
   branch-same-length-3 : branch-lts.Need-same-length-3 (branch-told t) (branch-at t) branch.Post
   branch-same-length-3 c = search needs
 
   branch-returns-3 : branch-lts.Need-returns-3 (branch-told t) (branch-at t) branch.Post
-  branch-returns-3 c = finish _ _ _ _ _ _ (c .before .before .before .before .before .before .before .before .before .before .before .before .before .before .before .before .before .before .before .before .before .pre .1 .ready) _ (c .before .before .before .before .before .before .before .before .before .before .before .before .before .before .before .before .before .before .before .before .before .pre .1 .parted) _ _ _ (c .before .before .before .before .before .before .before .before .before .before .before .before .before .before .before .before .before .put .kept .0) (low-is (c .before .before .before .before .before .before .before .before .before .before .before .before)) _ _ _ (c .before .before .before .before .before .before .before .before .before .put2 .kept .0) (high-is (c .before .before .before .before)) (c .before .before .settle .last .0) (c .before .before .settle .result) (c .before .before .settle .ensures)
+  branch-returns-3 c =
+      let at-settle = c .before .before in
+      let at-put2 = at-settle .before .before .before .before .before .before .before in
+      let at-put = at-put2 .before .before .before .before .before .before .before .before in
+      let start = at-put .before .before .before .before in
+      finish _ _ _ _ _ _ (start .pre .1 .ready) _ (start .pre .1 .parted) _ _ _ (at-put .put .kept .0) (low-is (at-put2 .before .before .before)) _ _ _ (at-put2 .put2 .kept .0) (high-is (at-settle .before .before)) (at-settle .settle .last .0) (at-settle .settle .result) (at-settle .settle .ensures)
 
 module _ (t : ℕ) where
   parted : (c : put-lts.After-known-told2 (put-told t) (put-at t) put.Post) → Parted (c .before .before .before .before .before .before .args .work .now) (c .before .before .before .before .before .before .args .job) (c .before .before .before .before .before .before .args .level) (c .before .before .before .before .before .before .args .count) (c .before .before .before .before .before .before .args .p .0) (c .before .before .before .before .before .before .args .off) (c .before .step2 .given .0 .0)
-  parted c = subst (λ z. Splits (c .before .before .before .before .before .before .args .work .now) (c .before .before .before .before .before .before .args .job) (c .before .before .before .before .before .before .args .level) (c .before .before .before .before .before .before .args .count) (c .before .before .before .before .before .before .args .p .0) (c .before .before .before .before .before .before .args .off) z) (c .before .step2 .given .1) (c .before .before .before .split .ensures)
+  parted c =
+      let at-split = c .before .before .before in
+      let start = at-split .before .before .before in
+      subst (λ z. Splits (start .args .work .now) (start .args .job) (start .args .level) (start .args .count) (start .args .p .0) (start .args .off) z) (c .before .step2 .given .1) (at-split .split .ensures)
 
   put-split-requires : put-lts.Need-split-requires (put-told t) (put-at t) put.Post
   put-split-requires c κs = c .before .before .pre .1
@@ -108,19 +143,26 @@ module _ (t : ℕ) where
   put-enum-known-step-2 c = search needs
 
   put-branch-requires : put-lts.Need-branch-requires (put-told t) (put-at t) put.Post
-  put-branch-requires c κs = let d = parted (c .before) in (omega (arith, c .before .before .before .before .before .before .before .pre .0, d .from, d .below), forking _ _ _ _ _ _ _ (c .before .before .before .before .before .before .before .pre .1) d)
+  put-branch-requires c κs =
+      let start = c .before .before .before .before .before .before .before in
+      let d = parted (c .before) in (omega (arith, start .pre .0, d .from, d .below), forking _ _ _ _ _ _ _ (start .pre .1) d)
 
   put-same-length : put-lts.Need-same-length (put-told t) (put-at t) put.Post
   put-same-length c = search needs
 
   put-returns : put-lts.Need-returns (put-told t) (put-at t) put.Post
-  put-returns c = put-done _ _ _ _ _ _ _ (c .before .before .before .before .before .before .pre .1) (subst (λ z. Splits (c .before .before .before .before .before .before .args .work .now) (c .before .before .before .before .before .before .args .job) (c .before .before .before .before .before .before .args .level) (c .before .before .before .before .before .before .args .count) (c .before .before .before .before .before .before .args .p .0) (c .before .before .before .before .before .before .args .off) z) (c .before .step .given .1) (c .before .before .before .split .ensures))
+  put-returns c =
+      let at-split = c .before .before .before in
+      let start = at-split .before .before .before in
+      put-done _ _ _ _ _ _ _ (start .pre .1) (subst (λ z. Splits (start .args .work .now) (start .args .job) (start .args .level) (start .args .count) (start .args .p .0) (start .args .off) z) (c .before .step .given .1) (at-split .split .ensures))
 
   put-same-length-2 : put-lts.Need-same-length-2 (put-told t) (put-at t) put.Post
   put-same-length-2 c = search needs
 
   put-returns-2 : put-lts.Need-returns-2 (put-told t) (put-at t) put.Post
-  put-returns-2 c = lifted _ _ _ _ _ _ _ _ (parted (c .before .before .before .before)) (c .before .before .branch .result) (c .before .before .branch .ensures)
+  put-returns-2 c =
+      let at-branch = c .before .before in
+      lifted _ _ _ _ _ _ _ _ (parted (at-branch .before .before)) (at-branch .branch .result) (at-branch .branch .ensures)
 
 pub +branch+put-spec : {M : Type 1} → statement M
 +branch+put-spec = close μ-branch μ-put

@@ -17,10 +17,16 @@ cast-if2 : tie.Need-cast-if2
 cast-if2 c = search needs
 
 returns-2 : tie.Need-returns-2
-returns-2 c = off-low _ _ _ (c .before .before .before .if1 .left) (c .before .before .before .before .before .pre .1) (c .if2 .taken)
+returns-2 c =
+    let at-if1 = c .before .before .before in
+    let start = at-if1 .before .before in
+    off-low _ _ _ (at-if1 .if1 .left) (start .pre .1) (c .if2 .taken)
 
 returns-3 : tie.Need-returns-3
-returns-3 c = off-high _ _ _ (c .before .before .before .if1 .left) (c .before .before .before .before .before .pre .1) (c .if2 .left)
+returns-3 c =
+    let at-if1 = c .before .before .before in
+    let start = at-if1 .before .before in
+    off-high _ _ _ (at-if1 .if1 .left) (start .pre .1) (c .if2 .left)
 
 pub left-out-spec : {M : Type 1} → statement M
 left-out-spec = tie.close (tie.spec shr-if1 returns shr-if2 cast-if2 returns-2 returns-3)

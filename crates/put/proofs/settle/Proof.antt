@@ -17,8 +17,11 @@ same-length c = search needs
 
 returns : tie.Need-returns
 returns c =
-    let g = c .before .before .before .before .before .before .before .before .before .before .before in
-    same-settled _ _ _ _ _ _ _ (g .pre) (c .before .before .before .before .before .before .before .if1 .taken) (eqb-true _ _ (c .before .before .before .before .if2 .taken)) _ (c .before .before .keep .ensures)
+    let at-keep = c .before .before in
+    let at-if2 = at-keep .before .before in
+    let at-if1 = at-if2 .before .before .before in
+    let g = at-if1 .before .before .before .before in
+    same-settled _ _ _ _ _ _ _ (g .pre) (at-if1 .if1 .taken) (eqb-true _ _ (at-if2 .if2 .taken)) _ (at-keep .keep .ensures)
 
 make-node-requires : tie.Need-make-node-requires
 make-node-requires c κs =
@@ -36,23 +39,29 @@ same-length-2 c = search needs
 
 returns-2 : tie.Need-returns-2
 returns-2 c =
-    let g = c .before .before .before .before .before .before .before .before .before .before in
-    subst (λ z. Notes (g .args .work .now) (c .before .before .before .before .make-node .last .0) (g .args .job .cap) (g .args .count) (g .args .cut .variable .0) (g .args .low .0) (g .args .high .0) z) (c .enum-told .given .1) (c .before .before .before .before .make-node .ensures)
+    let at-make-node = c .before .before .before .before in
+    let g = at-make-node .before .before .before .before .before .before in
+    subst (λ z. Notes (g .args .work .now) (at-make-node .make-node .last .0) (g .args .job .cap) (g .args .count) (g .args .cut .variable .0) (g .args .low .0) (g .args .high .0) z) (c .enum-told .given .1) (at-make-node .make-node .ensures)
 
 keep-requires-2 : tie.Need-keep-requires-2
 keep-requires-2 c κs =
-    let g = c .before .before .before .before .before .before .before .before .before .before .before .before in
-    let h = subst (λ z. Notes (g .args .work .now) (c .before .before .before .before .before .before .make-node .last .0) (g .args .job .cap) (g .args .count) (g .args .cut .variable .0) (g .args .low .0) (g .args .high .0) z) (c .before .before .made .given .1) (c .before .before .before .before .before .before .make-node .ensures) in
-    (slot-in _ _ _ _ _ _ _ (g .pre) (c .before .before .before .before .before .before .make-node .last .0) (c .before .before .before .before .before .before .make-node .kept .0), g .pre .noded .pushing .few, g .pre .stamp, root-in _ _ _ _ _ _ _ (g .pre) _ _ _ (h .holds))
+    let at-made = c .before .before in
+    let at-make-node = at-made .before .before .before .before in
+    let g = at-make-node .before .before .before .before .before .before in
+    let h = subst (λ z. Notes (g .args .work .now) (at-make-node .make-node .last .0) (g .args .job .cap) (g .args .count) (g .args .cut .variable .0) (g .args .low .0) (g .args .high .0) z) (at-made .made .given .1) (at-make-node .make-node .ensures) in
+    (slot-in _ _ _ _ _ _ _ (g .pre) (at-make-node .make-node .last .0) (at-make-node .make-node .kept .0), g .pre .noded .pushing .few, g .pre .stamp, root-in _ _ _ _ _ _ _ (g .pre) _ _ _ (h .holds))
 
 same-length-3 : tie.Need-same-length-3
 same-length-3 c = search needs
 
 returns-3 : tie.Need-returns-3
 returns-3 c =
-    let g = c .before .before .before .before .before .before .before .before .before .before .before .before .before .before .before in
-    let h = subst (λ z. Notes (g .args .work .now) (c .before .before .before .before .before .before .before .before .before .make-node .last .0) (g .args .job .cap) (g .args .count) (g .args .cut .variable .0) (g .args .low .0) (g .args .high .0) z) (c .before .before .before .before .before .made .given .1) (c .before .before .before .before .before .before .before .before .before .make-node .ensures) in
-    made-settled _ _ _ _ _ _ _ (g .pre) (c .before .before .before .before .before .before .before .before .before .make-node .last .0) (c .before .before .before .before .before .made .given .0 .0 .0) (c .before .before .before .before .before .made .given .0 .1 .0) h (c .before .before .before .before .before .before .before .before .before .make-node .kept .0) _ (c .before .before .keep2 .ensures)
+    let at-keep2 = c .before .before in
+    let at-made = at-keep2 .before .before .before in
+    let at-make-node = at-made .before .before .before .before in
+    let g = at-make-node .before .before .before .before .before .before in
+    let h = subst (λ z. Notes (g .args .work .now) (at-make-node .make-node .last .0) (g .args .job .cap) (g .args .count) (g .args .cut .variable .0) (g .args .low .0) (g .args .high .0) z) (at-made .made .given .1) (at-make-node .make-node .ensures) in
+    made-settled _ _ _ _ _ _ _ (g .pre) (at-make-node .make-node .last .0) (at-made .made .given .0 .0 .0) (at-made .made .given .0 .1 .0) h (at-make-node .make-node .kept .0) _ (at-keep2 .keep2 .ensures)
 
 pub settle-spec : {M : Type 1} → statement M
 settle-spec =

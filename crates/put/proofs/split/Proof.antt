@@ -26,18 +26,21 @@ returns-2 c =
 
 returns-3 : tie.Need-returns-3
 returns-3 c =
-    let g = c .before .before .before .before .before .before .before in
-    on-walk (g .args .work .now) (g .args .job) (g .args .level) (g .args .count) (g .args .p .0) _ (g .args .off) (c .before .before .before .before .before .if1 .left) (done-term _ _ _ _ _ (g .pre) (c .if3 .taken))
+    let at-if1 = c .before .before .before .before .before in
+    let g = at-if1 .before .before in
+    on-walk (g .args .work .now) (g .args .job) (g .args .level) (g .args .count) (g .args .p .0) _ (g .args .off) (at-if1 .if1 .left) (done-term _ _ _ _ _ (g .pre) (c .if3 .taken))
 
 cast-next : tie.Need-cast-next
 cast-next c =
-    let g = c .before .before .before .before .before .before .before in
-    record { fits = omega (arith, tz-small _ _ _ _ _ (g .pre) (c .before .before .before .if2 .left)) }
+    let at-if2 = c .before .before .before in
+    let g = at-if2 .before .before .before .before in
+    record { fits = omega (arith, tz-small _ _ _ _ _ (g .pre) (at-if2 .if2 .left)) }
 
 add-next : tie.Need-add-next
 add-next c =
-    let g = c .before .before .before .before .before .before .before in
-    record { fits = omega (arith, next-lt _ _ _ _ _ (g .pre) (c .before .before .before .if2 .left), g .pre .marks) }
+    let at-if2 = c .before .before .before in
+    let g = at-if2 .before .before .before .before in
+    record { fits = omega (arith, next-lt _ _ _ _ _ (g .pre) (at-if2 .if2 .left), g .pre .marks) }
 
 var-of-requires : tie.Need-var-of-requires
 var-of-requires c κs =
@@ -46,14 +49,18 @@ var-of-requires c κs =
 
 left-out-requires : tie.Need-left-out-requires
 left-out-requires c κs =
-    let g = c .before .before .before .before .before .before .before .before .before .before in
-    (omega (arith, next-lt _ _ _ _ _ (g .pre) (c .before .before .before .before .before .before .if2 .left), g .pre .marks), g .pre .term)
+    let at-if2 = c .before .before .before .before .before .before in
+    let g = at-if2 .before .before .before .before in
+    (omega (arith, next-lt _ _ _ _ _ (g .pre) (at-if2 .if2 .left), g .pre .marks), g .pre .term)
 
 returns-4 : tie.Need-returns-4
 returns-4 c =
-    let g = c .before .before .before .before .before .before .before .before .before .before .before in
-    on-parted _ _ _ _ _ _ _ (c .before .before .before .before .before .before .before .before .before .if1 .left)
-    (skips _ _ _ _ _ (g .pre) (c .before .before .before .before .before .before .before .if2 .left) _ _ (omega (arith, c .before .if4 .taken, c .before .before .before .var-of .ensures, mark-is _ _ _ _ _ (g .pre))) (c .left-out .ensures .0) (c .left-out .ensures .1))
+    let at-var-of = c .before .before .before in
+    let at-if2 = at-var-of .before .before .before .before in
+    let at-if1 = at-if2 .before .before in
+    let g = at-if1 .before .before in
+    on-parted _ _ _ _ _ _ _ (at-if1 .if1 .left)
+    (skips _ _ _ _ _ (g .pre) (at-if2 .if2 .left) _ _ (omega (arith, c .before .if4 .taken, at-var-of .var-of .ensures, mark-is _ _ _ _ _ (g .pre))) (c .left-out .ensures .0) (c .left-out .ensures .1))
 
 recall-requires : tie.Need-recall-requires
 recall-requires c κs =
@@ -65,18 +72,25 @@ enum-known-known c = search needs
 
 returns-5 : tie.Need-returns-5
 returns-5 c =
-    let g = c .before .before .before .before .before .before .before .before .before .before .before .before .before .before in
-    let e = subst (λ z. Recalls (getD (g .args .work .now) (3 * g .args .job .cap + g .args .p .0) 0) (g .args .job .stamp) z) (c .before .known .given .1) (c .before .before .before .recall .ensures) in
-    on-walk (g .args .work .now) (g .args .job) (g .args .level) (g .args .count) (g .args .p .0) _ (g .args .off) (c .before .before .before .before .before .before .before .before .before .before .before .before .if1 .left)
-    (done-memo _ _ _ _ _ (g .pre) (c .before .before .before .before .before .before .before .before .before .before .if2 .left) (c .before .before .before .before .before .before .var-of .result .0) (c .before .known .given .0 .0 .0) (c .before .before .before .before .before .before .var-of .ensures ∙ mark-is _ _ _ _ _ (g .pre)) (λ h. omega (arith, c .before .before .before .before .if4 .left)) (e .0) (e .1))
+    let at-recall = c .before .before .before in
+    let at-if4 = at-recall .before in
+    let at-var-of = at-if4 .before .before in
+    let at-if2 = at-var-of .before .before .before .before in
+    let at-if1 = at-if2 .before .before in
+    let g = at-if1 .before .before in
+    let e = subst (λ z. Recalls (getD (g .args .work .now) (3 * g .args .job .cap + g .args .p .0) 0) (g .args .job .stamp) z) (c .before .known .given .1) (at-recall .recall .ensures) in
+    on-walk (g .args .work .now) (g .args .job) (g .args .level) (g .args .count) (g .args .p .0) _ (g .args .off) (at-if1 .if1 .left)
+    (done-memo _ _ _ _ _ (g .pre) (at-if2 .if2 .left) (at-var-of .var-of .result .0) (c .before .known .given .0 .0 .0) (at-var-of .var-of .ensures ∙ mark-is _ _ _ _ _ (g .pre)) (λ h. omega (arith, at-if4 .if4 .left)) (e .0) (e .1))
 
 enum-told : tie.Need-enum-told
 enum-told c = search needs
 
 left-out-requires-2 : tie.Need-left-out-requires-2
 left-out-requires-2 c κs =
-    let g = c .before .before .before .before .before .before .before .before .before .before .before .before .before in
-    (omega (arith, next-lt _ _ _ _ _ (g .pre) (c .before .before .before .before .before .before .before .before .before .if2 .left), g .pre .marks, c .before .before .before .if4 .left), g .pre .term)
+    let at-if4 = c .before .before .before in
+    let at-if2 = at-if4 .before .before .before .before .before .before in
+    let g = at-if2 .before .before .before .before in
+    (omega (arith, next-lt _ _ _ _ _ (g .pre) (at-if2 .if2 .left), g .pre .marks, at-if4 .if4 .left), g .pre .term)
 
 low-link-of-requires : tie.Need-low-link-of-requires
 low-link-of-requires c κs =
@@ -90,9 +104,14 @@ high-link-of-requires c κs =
 
 returns-6 : tie.Need-returns-6
 returns-6 c =
-    let g = c .before .before .before .before .before .before .before .before .before .before .before .before .before .before .before .before in
-    on-parted _ _ _ _ _ _ _ (c .before .before .before .before .before .before .before .before .before .before .before .before .before .before .if1 .left)
-    (owns _ _ _ _ _ (g .pre) (c .before .before .before .before .before .before .before .before .before .before .before .before .if2 .left) _ _ _ _ _ (c .before .before .before .before .before .before .before .before .var-of .ensures ∙ mark-is _ _ _ _ _ (g .pre)) (λ h. omega (arith, c .before .before .before .before .before .before .if4 .left)) (c .before .before .left-out2 .ensures .0) (c .before .before .left-out2 .ensures .1)
+    let at-left-out2 = c .before .before in
+    let at-if4 = at-left-out2 .before .before .before .before in
+    let at-var-of = at-if4 .before .before in
+    let at-if2 = at-var-of .before .before .before .before in
+    let at-if1 = at-if2 .before .before in
+    let g = at-if1 .before .before in
+    on-parted _ _ _ _ _ _ _ (at-if1 .if1 .left)
+    (owns _ _ _ _ _ (g .pre) (at-if2 .if2 .left) _ _ _ _ _ (at-var-of .var-of .ensures ∙ mark-is _ _ _ _ _ (g .pre)) (λ h. omega (arith, at-if4 .if4 .left)) (at-left-out2 .left-out2 .ensures .0) (at-left-out2 .left-out2 .ensures .1)
     (c .before .low-link-of .ensures ∙ low-is _ _ _ _ _ (g .pre)) (c .high-link-of .ensures ∙ high-is _ _ _ _ _ (g .pre)))
 
 pub split-spec : {M : Type 1} → statement M

@@ -34,15 +34,25 @@ enum-told-2 c = search needs
 
 returns : tie.Need-returns
 returns c =
-    let t = c .before .before .before .before .before .before .before .pre in
-    found-repeats _ _ _ _ (t .0) _ (t .1) (t .2) _ _ _ (c .before .before .before .before .before .var-of .ensures) (c .before .before .before .before .low-link-of .ensures) (c .before .before .before .high-link-of .ensures)
-    _ (c .before .before .find-node .ensures) _ (c .enum-told .given .1)
+    let at-find-node = c .before .before in
+    let at-high-link-of = at-find-node .before in
+    let at-low-link-of = at-high-link-of .before in
+    let at-var-of = at-low-link-of .before in
+    let start = at-var-of .before .before in
+    let t = start .pre in
+    found-repeats _ _ _ _ (t .0) _ (t .1) (t .2) _ _ _ (at-var-of .var-of .ensures) (at-low-link-of .low-link-of .ensures) (at-high-link-of .high-link-of .ensures)
+    _ (at-find-node .find-node .ensures) _ (c .enum-told .given .1)
 
 returns-2 : tie.Need-returns-2
 returns-2 c =
-    let t = c .before .before .before .before .before .before .before .pre in
-    nowhere-repeats _ _ _ _ (t .0) _ (t .1) (t .2) _ _ _ (c .before .before .before .before .before .var-of .ensures) (c .before .before .before .before .low-link-of .ensures) (c .before .before .before .high-link-of .ensures)
-    _ (c .before .before .find-node .ensures) (c .enum-told2 .given .1)
+    let at-find-node = c .before .before in
+    let at-high-link-of = at-find-node .before in
+    let at-low-link-of = at-high-link-of .before in
+    let at-var-of = at-low-link-of .before in
+    let start = at-var-of .before .before in
+    let t = start .pre in
+    nowhere-repeats _ _ _ _ (t .0) _ (t .1) (t .2) _ _ _ (at-var-of .var-of .ensures) (at-low-link-of .low-link-of .ensures) (at-high-link-of .high-link-of .ensures)
+    _ (at-find-node .find-node .ensures) (c .enum-told2 .given .1)
 
 pub is-repeated-spec : {M : Type 1} → statement M
 is-repeated-spec =

@@ -35,13 +35,18 @@ cast-high : tie.Need-cast-high
 cast-high c = search needs
 
 slice-write-marks-2 : tie.Need-slice-write-marks-2
-slice-write-marks-2 c = simp length-set (omega (arith, c .before .high-link-of .ensures, c .before .before .before .before .before .before .before .before .before .pre .3))
+slice-write-marks-2 c =
+    let start = c .before .before .before .before .before .before .before .before .before in
+    simp length-set (omega (arith, c .before .high-link-of .ensures, start .pre .3))
 
 same-length : tie.Need-same-length
 same-length c = search needs
 
 returns-2 : tie.Need-returns-2
-returns-2 c = unfold linksMarked in rw (ne-eqb _ 0 (c .before .before .before .before .if1 .left), c .before .high-link-of .ensures, c .before .before .before .low-link-of .ensures)
+returns-2 c =
+    let at-low-link-of = c .before .before .before in
+    let at-if1 = at-low-link-of .before in
+    unfold linksMarked in rw (ne-eqb _ 0 (at-if1 .if1 .left), c .before .high-link-of .ensures, at-low-link-of .low-link-of .ensures)
 
 pub mark-links-spec : {M : Type 1} → statement M
 mark-links-spec =

@@ -32,8 +32,10 @@ loop-holds c = marking-first _ _ _ _ (c .before .before .pre .0) _ (c .before .b
 
 mark-links-requires : tie.Need-mark-links-requires Inv-loop μ-loop
 mark-links-requires c κs =
-    let t = c .before .before .before .before .before .pre .0 in
-    let i = c .before .before .loop .inv in
+    let at-loop = c .before .before in
+    let start = at-loop .before .before .before in
+    let t = start .pre .0 in
+    let i = at-loop .loop .inv in
     let two = c .before .loop-test .taken in
     (omega (arith, t .long, i .1), omega (arith, i .0 .long, i .1, t .few), omega (arith, i .0 .long, i .1, t .few, child-falls _ _ _ (t .ordered) _ false two (i .1)), omega (arith, i .0 .long, i .1, t .few, child-falls _ _ _ (t .ordered) _ true two (i .1)))
 
@@ -44,7 +46,12 @@ loop-less : tie.Need-loop-less Inv-loop μ-loop
 loop-less c = omega arith
 
 loop-again : tie.Need-loop-again Inv-loop μ-loop
-loop-again c = marking-again _ _ _ _ (c .before .before .before .before .before .before .before .before .pre .0) _ _ _ (c .before .before .before .before .loop-test .taken) (c .before .before .before .before .before .loop .inv .1) (c .before .before .before .before .before .loop .inv .0) (c .before .before .mark-links .ensures)
+loop-again c =
+    let at-mark-links = c .before .before in
+    let at-loop-test = at-mark-links .before .before in
+    let at-loop = at-loop-test .before in
+    let start = at-loop .before .before .before in
+    marking-again _ _ _ _ (start .pre .0) _ _ _ (at-loop-test .loop-test .taken) (at-loop .loop .inv .1) (at-loop .loop .inv .0) (at-mark-links .mark-links .ensures)
 
 same-length : tie.Need-same-length Inv-loop μ-loop
 same-length c = omega (arith, c .before .loop .inv .0 .long, ap length (c .before .before .before .before .pre .1), length-replicate {A = ℕ} maxNodes 0)

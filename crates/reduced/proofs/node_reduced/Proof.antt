@@ -19,13 +19,21 @@ high-link-of-requires : tie.Need-high-link-of-requires
 high-link-of-requires c κs = search needs
 
 returns-2 : tie.Need-returns-2
-returns-2 c = same-links _ _ _ _ (c .before .before .before .before .before .before .before .before .before .pre .0) _ (c .before .before .before .before .before .if1 .left) (c .before .before .before .before .before .before .before .before .before .pre .2) _ _ (c .before .before .before .before .low-link-of .ensures) (c .before .before .before .high-link-of .ensures) (c .if2 .taken)
+returns-2 c =
+    let at-high-link-of = c .before .before .before in
+    let at-low-link-of = at-high-link-of .before in
+    let at-if1 = at-low-link-of .before in
+    let start = at-if1 .before .before .before .before in
+    same-links _ _ _ _ (start .pre .0) _ (at-if1 .if1 .left) (start .pre .2) _ _ (at-low-link-of .low-link-of .ensures) (at-high-link-of .high-link-of .ensures) (c .if2 .taken)
 
 is-repeated-requires : tie.Need-is-repeated-requires
 is-repeated-requires c κs = search needs
 
 returns-3 : tie.Need-returns-3
-returns-3 c = repeats _ _ _ _ (c .before .before .before .before .before .before .before .before .before .before .before .pre .0) _ (c .before .before .before .before .before .before .before .if1 .left) (c .before .before .before .before .before .before .before .before .before .before .before .pre .2) (sym (c .if3 .taken) ∙ c .before .is-repeated .ensures)
+returns-3 c =
+    let at-if1 = c .before .before .before .before .before .before .before in
+    let start = at-if1 .before .before .before .before in
+    repeats _ _ _ _ (start .pre .0) _ (at-if1 .if1 .left) (start .pre .2) (sym (c .if3 .taken) ∙ c .before .is-repeated .ensures)
 
 cast-at : tie.Need-cast-at
 cast-at c = search needs
@@ -35,8 +43,15 @@ shared-slice-read-result c = search needs
 
 returns-4 : tie.Need-returns-4
 returns-4 c =
-    marked-reduced _ _ _ _ (c .before .before .before .before .before .before .before .before .before .before .before .before .before .pre .0) _ (c .before .before .before .before .before .before .before .before .before .if1 .left) (c .before .before .before .before .before .before .before .before .before .before .before .before .before .pre .2) _ (c .before .before .before .before .before .before .before .before .before .before .before .before .before .pre .1) _ _ (c .before .before .before .before .before .before .before .before .low-link-of .ensures) (c .before .before .before .before .before .before .before .high-link-of .ensures) (c .before .before .before .before .if2 .left)
-    (sym (c .before .before .if3 .left) ∙ c .before .before .before .is-repeated .ensures)
+    let at-if3 = c .before .before in
+    let at-is-repeated = at-if3 .before in
+    let at-if2 = at-is-repeated .before in
+    let at-high-link-of = at-if2 .before .before .before in
+    let at-low-link-of = at-high-link-of .before in
+    let at-if1 = at-low-link-of .before in
+    let start = at-if1 .before .before .before .before in
+    marked-reduced _ _ _ _ (start .pre .0) _ (at-if1 .if1 .left) (start .pre .2) _ (start .pre .1) _ _ (at-low-link-of .low-link-of .ensures) (at-high-link-of .high-link-of .ensures) (at-if2 .if2 .left)
+    (sym (at-if3 .if3 .left) ∙ at-is-repeated .is-repeated .ensures)
 
 pub node-reduced-spec : {M : Type 1} → statement M
 node-reduced-spec =

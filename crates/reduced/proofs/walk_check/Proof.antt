@@ -24,10 +24,16 @@ lowest-unreduced-requires : tie.Need-lowest-unreduced-requires
 lowest-unreduced-requires c κs = check-sound _ _ _ _ (c .before .before .before .inspect .ensures) _ (c .before .inspected .given .1)
 
 returns-2 : tie.Need-returns-2
-returns-2 c = unfold inspectionReply in check-unreduced _ _ _ _ (c .before .before .before .before .before .inspect .ensures) _ (c .before .before .before .inspected .given .1) _ (c .before .lowest-unreduced .ensures) (c .if1 .taken)
+returns-2 c =
+    let at-inspected = c .before .before .before in
+    let at-inspect = at-inspected .before .before in
+    unfold inspectionReply in check-unreduced _ _ _ _ (at-inspect .inspect .ensures) _ (at-inspected .inspected .given .1) _ (c .before .lowest-unreduced .ensures) (c .if1 .taken)
 
 returns-3 : tie.Need-returns-3
-returns-3 c = unfold inspectionReply in check-reduced _ _ _ _ (c .before .before .before .before .before .inspect .ensures) _ (c .before .before .before .inspected .given .1) _ (c .before .lowest-unreduced .ensures) (c .if1 .left)
+returns-3 c =
+    let at-inspected = c .before .before .before in
+    let at-inspect = at-inspected .before .before in
+    unfold inspectionReply in check-reduced _ _ _ _ (at-inspect .inspect .ensures) _ (at-inspected .inspected .given .1) _ (c .before .lowest-unreduced .ensures) (c .if1 .left)
 
 pub walk-check-spec : {M : Type 1} → statement M
 walk-check-spec =

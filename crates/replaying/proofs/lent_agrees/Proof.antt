@@ -35,7 +35,9 @@ slice-relend-prefix-call-agrees : tie.Need-slice-relend-prefix-call-agrees
 slice-relend-prefix-call-agrees c = search needs
 
 slice-aggregate-call-agrees : tie.Need-slice-aggregate-call-agrees
-slice-aggregate-call-agrees c = sym (length-take-le _ _ (c .before .before .before .before .before .before .before .before .at-most .ensures))
+slice-aggregate-call-agrees c =
+    let at-at-most = c .before .before .before .before .before .before .before .before in
+    sym (length-take-le _ _ (at-at-most .at-most .ensures))
 
 slice-relend-prefix-call-agrees-2 : tie.Need-slice-relend-prefix-call-agrees-2
 slice-relend-prefix-call-agrees-2 c = search needs

@@ -32,7 +32,10 @@ same-length : tie.Need-same-length
 same-length c = c .before .before .zero-u64-from .kept .0 ∙ simp length-set
 
 returns-2 : tie.Need-returns-2
-returns-2 c = (rw (le-ltb _ _ (c .before .before .before .before .if1 .left)), stored _ _ _ _ (c .before .before .before .before .if1 .left) refl (c .before .before .zero-u64-from .ensures))
+returns-2 c =
+    let at-zero-u64-from = c .before .before in
+    let at-if1 = at-zero-u64-from .before .before in
+    (rw (le-ltb _ _ (at-if1 .if1 .left)), stored _ _ _ _ (at-if1 .if1 .left) refl (at-zero-u64-from .zero-u64-from .ensures))
 
 pub write-reply-spec : {M : Type 1} → statement M
 write-reply-spec =

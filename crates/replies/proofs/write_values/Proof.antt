@@ -60,10 +60,18 @@ zero-u64-from-requires : tie.Need-zero-u64-from-requires Inv-loop μ-loop
 zero-u64-from-requires c κs = omega (arith, c .before .before .loop .inv .enough)
 
 same-length : tie.Need-same-length Inv-loop μ-loop
-same-length c = c .before .before .zero-u64-from .kept .0 ∙ c .before .before .before .before .before .loop .inv .long ∙ simp length-set
+same-length c =
+    let at-zero-u64-from = c .before .before in
+    let at-loop = at-zero-u64-from .before .before .before in
+    at-zero-u64-from .zero-u64-from .kept .0 ∙ at-loop .loop .inv .long ∙ simp length-set
 
 returns : tie.Need-returns Inv-loop μ-loop
-returns c = listed (c .before .before .before .before .before .before .before .before .before .args .list .words) (c .before .before .before .before .before .before .before .before .before .args .reply .now) (c .before .before .before .before .before .before .before .before .before .args .list .refusal .number) (c .before .before .before .before .before .before .before .before .before .args .list .refusal .place) (c .before .before .before .before .before .before .before .before .before .args .list .count) (c .before .before .before .before .before .before .before .before .before .pre .1) (c .before .before .before .before .before .before .before .before .before .pre .0) _ _ _ (c .before .before .before .before .before .loop .inv) (c .before .before .before .before .loop-test .left) (c .before .before .zero-u64-from .ensures)
+returns c =
+    let at-zero-u64-from = c .before .before in
+    let at-loop-test = at-zero-u64-from .before .before in
+    let at-loop = at-loop-test .before in
+    let start = at-loop .before .before .before .before in
+    listed (start .args .list .words) (start .args .reply .now) (start .args .list .refusal .number) (start .args .list .refusal .place) (start .args .list .count) (start .pre .1) (start .pre .0) _ _ _ (at-loop .loop .inv) (at-loop-test .loop-test .left) (at-zero-u64-from .zero-u64-from .ensures)
 
 pub write-values-spec : {M : Type 1} → statement M
 write-values-spec =

@@ -13,8 +13,9 @@ refused-requires c κs = search needs
 
 returns : tie.Need-returns
 returns c =
-    let g = c .before .before .before .before in
-    c .refused .ensures ∙ clauses-misplaced (g .args .header) (g .args .bytes .now) (sym (c .before .if1 .taken) ∙ c .before .before .is-misplaced .ensures)
+    let at-is-misplaced = c .before .before in
+    let g = at-is-misplaced .before .before in
+    c .refused .ensures ∙ clauses-misplaced (g .args .header) (g .args .bytes .now) (sym (c .before .if1 .taken) ∙ at-is-misplaced .is-misplaced .ensures)
 
 cast-if2 : tie.Need-cast-if2
 cast-if2 c = search needs
@@ -24,8 +25,10 @@ refused-requires-2 c κs = search needs
 
 returns-2 : tie.Need-returns-2
 returns-2 c =
-    let g = c .before .before .before .before .before .before in
-    c .refused2 .ensures ∙ marks-refuse (g .args .header) (g .args .bytes .now) (sym (c .before .before .before .if1 .left) ∙ c .before .before .before .before .is-misplaced .ensures) (c .before .if2 .taken)
+    let at-if1 = c .before .before .before in
+    let at-is-misplaced = at-if1 .before in
+    let g = at-is-misplaced .before .before in
+    c .refused2 .ensures ∙ marks-refuse (g .args .header) (g .args .bytes .now) (sym (at-if1 .if1 .left) ∙ at-is-misplaced .is-misplaced .ensures) (c .before .if2 .taken)
 
 cast-if3 : tie.Need-cast-if3
 cast-if3 c = search needs
@@ -35,8 +38,11 @@ refused-requires-3 c κs = search needs
 
 returns-3 : tie.Need-returns-3
 returns-3 c =
-    let g = c .before .before .before .before .before .before .before in
-    c .refused3 .ensures ∙ count-refuses (g .args .header) (g .args .bytes .now) (sym (c .before .before .before .before .if1 .left) ∙ c .before .before .before .before .before .is-misplaced .ensures) (c .before .before .if2 .left) (c .before .if3 .taken)
+    let at-if2 = c .before .before in
+    let at-if1 = at-if2 .before .before in
+    let at-is-misplaced = at-if1 .before in
+    let g = at-is-misplaced .before .before in
+    c .refused3 .ensures ∙ count-refuses (g .args .header) (g .args .bytes .now) (sym (at-if1 .if1 .left) ∙ at-is-misplaced .is-misplaced .ensures) (at-if2 .if2 .left) (c .before .if3 .taken)
 
 cast-first-malformed : tie.Need-cast-first-malformed
 cast-first-malformed c = search needs
@@ -46,8 +52,11 @@ cast-first-malformed-2 c = search needs
 
 first-malformed-requires : tie.Need-first-malformed-requires
 first-malformed-requires c κs =
-    let g = c .before .before .before .before .before .before .before in
-    (c .before .before .if2 .left, c .before .if3 .left, section-long (g .args .header) (g .args .bytes .now) (g .pre) _ _ _ _ _ (sym (c .before .before .before .before .if1 .left) ∙ c .before .before .before .before .before .is-misplaced .ensures))
+    let at-if2 = c .before .before in
+    let at-if1 = at-if2 .before .before in
+    let at-is-misplaced = at-if1 .before in
+    let g = at-is-misplaced .before .before in
+    (at-if2 .if2 .left, c .before .if3 .left, section-long (g .args .header) (g .args .bytes .now) (g .pre) _ _ _ _ _ (sym (at-if1 .if1 .left) ∙ at-is-misplaced .is-misplaced .ensures))
 
 cast-if4 : tie.Need-cast-if4
 cast-if4 c = search needs
@@ -55,14 +64,22 @@ cast-if4 c = search needs
 returns-4 : tie.Need-returns-4
 unfolding inspectionReply
 returns-4 c =
-    let g = c .before .before .before .before .before .before .before .before .before in
-    clause-refuses (g .args .header) (g .args .bytes .now) (sym (c .before .before .before .before .before .before .if1 .left) ∙ c .before .before .before .before .before .before .before .is-misplaced .ensures) (c .before .before .before .before .if2 .left) (c .before .before .before .if3 .left) _ (c .before .first-malformed .ensures) (c .if4 .taken)
+    let at-if3 = c .before .before .before in
+    let at-if2 = at-if3 .before in
+    let at-if1 = at-if2 .before .before in
+    let at-is-misplaced = at-if1 .before in
+    let g = at-is-misplaced .before .before in
+    clause-refuses (g .args .header) (g .args .bytes .now) (sym (at-if1 .if1 .left) ∙ at-is-misplaced .is-misplaced .ensures) (at-if2 .if2 .left) (at-if3 .if3 .left) _ (c .before .first-malformed .ensures) (c .if4 .taken)
 
 returns-5 : tie.Need-returns-5
 unfolding inspectionReply
 returns-5 c =
-    let g = c .before .before .before .before .before .before .before .before .before in
-    clauses-pass (g .args .header) (g .args .bytes .now) (sym (c .before .before .before .before .before .before .if1 .left) ∙ c .before .before .before .before .before .before .before .is-misplaced .ensures) (c .before .before .before .before .if2 .left) (c .before .before .before .if3 .left) _ (c .before .first-malformed .ensures) (c .if4 .left)
+    let at-if3 = c .before .before .before in
+    let at-if2 = at-if3 .before in
+    let at-if1 = at-if2 .before .before in
+    let at-is-misplaced = at-if1 .before in
+    let g = at-is-misplaced .before .before in
+    clauses-pass (g .args .header) (g .args .bytes .now) (sym (at-if1 .if1 .left) ∙ at-is-misplaced .is-misplaced .ensures) (at-if2 .if2 .left) (at-if3 .if3 .left) _ (c .before .first-malformed .ensures) (c .if4 .left)
 
 pub admit-clauses-spec : {M : Type 1} → statement M
 admit-clauses-spec =

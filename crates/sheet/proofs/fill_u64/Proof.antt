@@ -31,8 +31,9 @@ mul-out c = search needs
 
 slice-write-out : tie.Need-slice-write-out Inv-loop μ-loop
 slice-write-out c =
-    let g = c .before .before .before .before .before in
-    omega (arith, c .before .loop-test .taken, g .pre .0, c .before .before .loop .inv .1 .long)
+    let at-loop = c .before .before in
+    let g = at-loop .before .before .before in
+    omega (arith, c .before .loop-test .taken, g .pre .0, at-loop .loop .inv .1 .long)
 
 add-i : tie.Need-add-i Inv-loop μ-loop
 add-i c = search needs
@@ -42,8 +43,9 @@ loop-less c = search needs
 
 loop-again : tie.Need-loop-again Inv-loop μ-loop
 loop-again c =
-    let g = c .before .before .before .before .before in
-    (omega (arith, c .before .loop-test .taken), filled-more _ _ _ _ _ _ (c .before .before .loop .inv .1) (omega (arith, c .before .loop-test .taken, g .pre .0)) _ (c .word-at .ensures .0))
+    let at-loop = c .before .before in
+    let g = at-loop .before .before .before in
+    (omega (arith, c .before .loop-test .taken), filled-more _ _ _ _ _ _ (at-loop .loop .inv .1) (omega (arith, c .before .loop-test .taken, g .pre .0)) _ (c .word-at .ensures .0))
 
 same-length : tie.Need-same-length Inv-loop μ-loop
 same-length c = c .before .loop .inv .1 .long

@@ -24,8 +24,9 @@ slice-aggregate-first-bad c = taken-long _ _ _ _ _ (c .before .before .fill-u64 
 
 first-bad-requires : tie.Need-first-bad-requires
 first-bad-requires c κs =
-    let g = c .before .before .before .before .before in
-    (g .pre .0, g .pre .1, omega (arith, taken-long _ _ _ _ _ (c .before .before .fill-u64 .ensures)))
+    let at-fill-u64 = c .before .before in
+    let g = at-fill-u64 .before .before .before in
+    (g .pre .0, g .pre .1, omega (arith, taken-long _ _ _ _ _ (at-fill-u64 .fill-u64 .ensures)))
 
 returns : tie.Need-returns
 returns c = c .first-bad .ensures ∙ ap (firstBadEntry false _ _) (c .before .before .before .fill-u64 .ensures)

@@ -24,8 +24,11 @@ same-length-2 c = search needs
 
 returns : tie.Need-returns
 returns c =
-    let g = c .before .before .before .before .before .before .before .before .before .before .before .before .before in
-    give-over (g .args .header) (g .args .bytes .now) _ _ _ _ (c .before .before .before .before .if1 .taken) (c .before .before .zero-u64-from .ensures) (c .before .before .before .before .before .before .before .zero-u32-from .ensures)
+    let at-zero-u64-from = c .before .before in
+    let at-if1 = at-zero-u64-from .before .before in
+    let at-zero-u32-from = at-if1 .before .before .before in
+    let g = at-zero-u32-from .before .before .before .before .before .before in
+    give-over (g .args .header) (g .args .bytes .now) _ _ _ _ (at-if1 .if1 .taken) (at-zero-u64-from .zero-u64-from .ensures) (at-zero-u32-from .zero-u32-from .ensures)
 
 fill-u64-requires : tie.Need-fill-u64-requires
 fill-u64-requires c κs =
@@ -49,8 +52,12 @@ same-length-4 c = search needs
 
 returns-2 : tie.Need-returns-2
 returns-2 c =
-    let g = c .before .before .before .before .before .before .before .before .before .before .before .before .before .before .before .before .before .before .before in
-    give-clauses (g .args .header) (g .args .bytes .now) _ _ _ _ (c .before .before .before .before .before .before .before .before .before .before .if1 .left) _ (c .before .before .before .before .before .before .before .before .fill-u64 .ensures) (c .before .before .before .before .before .before .before .before .fill-u64 .kept .1 .1 .0) (c .before .before .before .before .zero-u64-from2 .ensures) (c .before .before .before .before .before .before .before .before .before .before .before .before .before .zero-u32-from .ensures) (g .args .dnf) (g .pre .1) _ (c .clause-section .ensures)
+    let at-zero-u64-from2 = c .before .before .before .before in
+    let at-fill-u64 = at-zero-u64-from2 .before .before .before .before in
+    let at-if1 = at-fill-u64 .before .before in
+    let at-zero-u32-from = at-if1 .before .before .before in
+    let g = at-zero-u32-from .before .before .before .before .before .before in
+    give-clauses (g .args .header) (g .args .bytes .now) _ _ _ _ (at-if1 .if1 .left) _ (at-fill-u64 .fill-u64 .ensures) (at-fill-u64 .fill-u64 .kept .1 .1 .0) (at-zero-u64-from2 .zero-u64-from2 .ensures) (at-zero-u32-from .zero-u32-from .ensures) (g .args .dnf) (g .pre .1) _ (c .clause-section .ensures)
 
 pub give-clauses-spec : {M : Type 1} → statement M
 give-clauses-spec =

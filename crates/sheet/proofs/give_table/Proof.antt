@@ -29,8 +29,11 @@ same-length-2 c = search needs
 
 returns : tie.Need-returns
 returns c =
-    let g = c .before .before .before .before .before .before .before .before .before .before .before .before .before .before .before .before .before in
-    give-table (g .args .header) (g .args .bytes .now) _ _ _ _ _ (c .before .before .before .before .before .before .before .fill-u32 .ensures) (c .before .before .before .before .before .before .before .fill-u32 .kept .1 .1 .0) (c .before .before .before .zero-u32-from .ensures) (c .before .before .before .before .before .before .before .before .before .before .before .zero-u64-from .ensures)
+    let at-zero-u32-from = c .before .before .before in
+    let at-fill-u32 = at-zero-u32-from .before .before .before .before in
+    let at-zero-u64-from = at-fill-u32 .before .before .before .before in
+    let g = at-zero-u64-from .before .before .before .before .before .before in
+    give-table (g .args .header) (g .args .bytes .now) _ _ _ _ _ (at-fill-u32 .fill-u32 .ensures) (at-fill-u32 .fill-u32 .kept .1 .1 .0) (at-zero-u32-from .zero-u32-from .ensures) (at-zero-u64-from .zero-u64-from .ensures)
 
 pub give-table-spec : {M : Type 1} → statement M
 give-table-spec =

@@ -16,7 +16,10 @@ cast-result : tie.Need-cast-result
 cast-result c = search needs
 
 returns-3 : tie.Need-returns-3
-returns-3 c = length-decides _ (c .before .before .before .before .if1 .left) _ (c .before .before .before .read-header .ensures) (c .before .if2 .left)
+returns-3 c =
+    let at-read-header = c .before .before .before in
+    let at-if1 = at-read-header .before in
+    length-decides _ (at-if1 .if1 .left) _ (at-read-header .read-header .ensures) (c .before .if2 .left)
 
 pub is-headless-spec : {M : Type 1} → statement M
 is-headless-spec =

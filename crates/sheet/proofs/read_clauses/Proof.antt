@@ -17,13 +17,16 @@ refusal-of-requires c κs = search needs
 
 returns : tie.Need-returns
 returns c =
-    let g = c .before .before .before .before .before .before .before in
-    section-refused _ _ _ (reads-clauses (g .args .bytes .now) (g .args .clauses .now) (g .args .nodes .now) (g .args .header) (g .pre .0) (g .args .dnf) (g .pre .1)) 1 _ (c .before .before .before .admit-clauses .ensures) (clauses-quiet (g .args .header) (g .args .bytes .now)) _ _ (c .before .enum-told2 .given .1) (c .refusal-of .ensures) _ _
+    let at-admit-clauses = c .before .before .before in
+    let g = at-admit-clauses .before .before .before .before in
+    section-refused _ _ _ (reads-clauses (g .args .bytes .now) (g .args .clauses .now) (g .args .nodes .now) (g .args .header) (g .pre .0) (g .args .dnf) (g .pre .1)) 1 _ (at-admit-clauses .admit-clauses .ensures) (clauses-quiet (g .args .header) (g .args .bytes .now)) _ _ (c .before .enum-told2 .given .1) (c .refusal-of .ensures) _ _
 
 give-clauses-requires : tie.Need-give-clauses-requires
 give-clauses-requires c κs =
-    let g = c .before .before .before .before .before .before .before .before in
-    (clauses-giving (g .args .header) (g .args .bytes .now) (g .pre .0) _ (c .before .before .before .before .admit-clauses .ensures) _ (c .before .before .enum-told .given .1), g .pre .1)
+    let at-enum-told = c .before .before in
+    let at-admit-clauses = at-enum-told .before .before in
+    let g = at-admit-clauses .before .before .before .before in
+    (clauses-giving (g .args .header) (g .args .bytes .now) (g .pre .0) _ (at-admit-clauses .admit-clauses .ensures) _ (at-enum-told .enum-told .given .1), g .pre .1)
 
 same-length : tie.Need-same-length
 same-length c = search needs
@@ -33,8 +36,11 @@ same-length-2 c = search needs
 
 returns-2 : tie.Need-returns-2
 returns-2 c =
-    let g = c .before .before .before .before .before .before .before .before .before .before .before .before .before in
-    section-given _ _ _ (reads-clauses (g .args .bytes .now) (g .args .clauses .now) (g .args .nodes .now) (g .args .header) (g .pre .0) (g .args .dnf) (g .pre .1)) 1 _ (c .before .before .before .before .before .before .before .before .before .admit-clauses .ensures) _ (c .before .before .before .before .before .before .before .enum-told .given .1) _ _ _ _ _ (c .before .before .before .before .give-clauses .ensures)
+    let at-give-clauses = c .before .before .before .before in
+    let at-enum-told = at-give-clauses .before .before .before in
+    let at-admit-clauses = at-enum-told .before .before in
+    let g = at-admit-clauses .before .before .before .before in
+    section-given _ _ _ (reads-clauses (g .args .bytes .now) (g .args .clauses .now) (g .args .nodes .now) (g .args .header) (g .pre .0) (g .args .dnf) (g .pre .1)) 1 _ (at-admit-clauses .admit-clauses .ensures) _ (at-enum-told .enum-told .given .1) _ _ _ _ _ (at-give-clauses .give-clauses .ensures)
 
 pub read-clauses-spec : {M : Type 1} → statement M
 read-clauses-spec =

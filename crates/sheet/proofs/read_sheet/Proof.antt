@@ -13,20 +13,36 @@ no-sheet-requires c κs = search needs
 
 returns : tie.Need-returns
 returns c =
-    let g = c .before .before .before .before .before .before in
-    none _ _ _ _ (reads-headless (g .args .bytes .now) (g .args .clauses .now) (g .args .nodes .now) (sym (c .before .if1 .taken) ∙ c .before .before .is-headless .ensures)) (c .no-sheet .ensures)
+    let at-is-headless = c .before .before in
+    let g = at-is-headless .before .before .before .before in
+    none _ _ _ _ (reads-headless (g .args .bytes .now) (g .args .clauses .now) (g .args .nodes .now) (sym (c .before .if1 .taken) ∙ at-is-headless .is-headless .ensures)) (c .no-sheet .ensures)
 
 read-header-requires : tie.Need-read-header-requires
 read-header-requires c κs = whole _ (sym (c .if1 .left) ∙ c .before .is-headless .ensures) .enough
 
 read-clauses-requires : tie.Need-read-clauses-requires
-read-clauses-requires c κs = (record { header = c .before .before .before .read-header .ensures; whole = sym (c .before .before .before .before .if1 .left) ∙ c .before .before .before .before .before .is-headless .ensures }, c .before .before .match .keys1)
+read-clauses-requires c κs =
+    let at-match = c .before .before in
+    let at-read-header = at-match .before in
+    let at-if1 = at-read-header .before in
+    let at-is-headless = at-if1 .before in
+    (record { header = at-read-header .read-header .ensures; whole = sym (at-if1 .if1 .left) ∙ at-is-headless .is-headless .ensures }, at-match .match .keys1)
 
 read-clauses-requires-2 : tie.Need-read-clauses-requires-2
-read-clauses-requires-2 c κs = (record { header = c .before .before .before .read-header .ensures; whole = sym (c .before .before .before .before .if1 .left) ∙ c .before .before .before .before .before .is-headless .ensures }, c .before .before .match .keys2)
+read-clauses-requires-2 c κs =
+    let at-match = c .before .before in
+    let at-read-header = at-match .before in
+    let at-if1 = at-read-header .before in
+    let at-is-headless = at-if1 .before in
+    (record { header = at-read-header .read-header .ensures; whole = sym (at-if1 .if1 .left) ∙ at-is-headless .is-headless .ensures }, at-match .match .keys2)
 
 read-table-requires : tie.Need-read-table-requires
-read-table-requires c κs = (record { header = c .before .before .before .read-header .ensures; whole = sym (c .before .before .before .before .if1 .left) ∙ c .before .before .before .before .before .is-headless .ensures }, c .before .before .match .keys3)
+read-table-requires c κs =
+    let at-match = c .before .before in
+    let at-read-header = at-match .before in
+    let at-if1 = at-read-header .before in
+    let at-is-headless = at-if1 .before in
+    (record { header = at-read-header .read-header .ensures; whole = sym (at-if1 .if1 .left) ∙ at-is-headless .is-headless .ensures }, at-match .match .keys3)
 
 no-sheet-requires-2 : tie.Need-no-sheet-requires-2
 no-sheet-requires-2 c κs = search needs
@@ -63,13 +79,21 @@ returns-4 c = three _ _ _ _ _ _ (c .before .before .before .before .read-table .
 
 returns-5 : tie.Need-returns-5
 returns-5 c =
-    let g = c .before .before .before .before .before .before .before .before .before .before in
-    none _ _ _ _ (reads-none (g .args .bytes .now) (g .args .clauses .now) (g .args .nodes .now) (c .before .before .before .before .read-header .result) (record { header = c .before .before .before .before .read-header .ensures; whole = sym (c .before .before .before .before .before .if1 .left) ∙ c .before .before .before .before .before .before .is-headless .ensures }) (c .before .before .before .match .rest .0 .0 .1) (c .before .before .before .match .rest .0 .1) (c .before .before .before .match .rest .1)) (c .no-sheet2 .ensures)
+    let at-match = c .before .before .before in
+    let at-read-header = at-match .before in
+    let at-if1 = at-read-header .before in
+    let at-is-headless = at-if1 .before in
+    let g = at-is-headless .before .before .before .before in
+    none _ _ _ _ (reads-none (g .args .bytes .now) (g .args .clauses .now) (g .args .nodes .now) (at-read-header .read-header .result) (record { header = at-read-header .read-header .ensures; whole = sym (at-if1 .if1 .left) ∙ at-is-headless .is-headless .ensures }) (at-match .match .rest .0 .0 .1) (at-match .match .rest .0 .1) (at-match .match .rest .1)) (c .no-sheet2 .ensures)
 
 returns-6 : tie.Need-returns-6
 returns-6 c =
-    let g = c .before .before .before .before .before .before .before .before .before in
-    none _ _ _ _ (reads-none (g .args .bytes .now) (g .args .clauses .now) (g .args .nodes .now) (c .before .before .before .read-header .result) (record { header = c .before .before .before .read-header .ensures; whole = sym (c .before .before .before .before .if1 .left) ∙ c .before .before .before .before .before .is-headless .ensures }) (c .before .before .match .rest .0 .0 .1) (c .before .before .match .rest .0 .1) (c .before .before .match .rest .1)) (c .no-sheet3 .ensures)
+    let at-match = c .before .before in
+    let at-read-header = at-match .before in
+    let at-if1 = at-read-header .before in
+    let at-is-headless = at-if1 .before in
+    let g = at-is-headless .before .before .before .before in
+    none _ _ _ _ (reads-none (g .args .bytes .now) (g .args .clauses .now) (g .args .nodes .now) (at-read-header .read-header .result) (record { header = at-read-header .read-header .ensures; whole = sym (at-if1 .if1 .left) ∙ at-is-headless .is-headless .ensures }) (at-match .match .rest .0 .0 .1) (at-match .match .rest .0 .1) (at-match .match .rest .1)) (c .no-sheet3 .ensures)
 
 pub read-sheet-spec : {M : Type 1} → statement M
 read-sheet-spec =

@@ -20,13 +20,16 @@ same-length c = search needs
 
 returns : tie.Need-returns
 returns c =
-    let g = c .before .before .before .before .before .before .before .before in
-    section-refused _ _ _ (reads-table (g .args .bytes .now) (g .args .clauses .now) (g .args .nodes .now) (g .args .header) (g .pre .0) (g .pre .1)) (g .args .header .«node_count») _ (c .before .before .before .admit-nodes .ensures) (nodes-quiet (g .args .header) (g .args .bytes .now) (g .args .nodes .now)) _ _ (c .before .enum-told2 .given .1) (c .refusal-of .ensures) _ _
+    let at-admit-nodes = c .before .before .before in
+    let g = at-admit-nodes .before .before .before .before .before in
+    section-refused _ _ _ (reads-table (g .args .bytes .now) (g .args .clauses .now) (g .args .nodes .now) (g .args .header) (g .pre .0) (g .pre .1)) (g .args .header .«node_count») _ (at-admit-nodes .admit-nodes .ensures) (nodes-quiet (g .args .header) (g .args .bytes .now) (g .args .nodes .now)) _ _ (c .before .enum-told2 .given .1) (c .refusal-of .ensures) _ _
 
 give-table-requires : tie.Need-give-table-requires
 give-table-requires c κs =
-    let g = c .before .before .before .before .before .before .before .before .before in
-    nodes-giving (g .args .header) (g .args .bytes .now) (g .args .nodes .now) (g .pre .0) _ (c .before .before .before .before .admit-nodes .ensures) _ (c .before .before .enum-told .given .1)
+    let at-enum-told = c .before .before in
+    let at-admit-nodes = at-enum-told .before .before in
+    let g = at-admit-nodes .before .before .before .before .before in
+    nodes-giving (g .args .header) (g .args .bytes .now) (g .args .nodes .now) (g .pre .0) _ (at-admit-nodes .admit-nodes .ensures) _ (at-enum-told .enum-told .given .1)
 
 same-length-2 : tie.Need-same-length-2
 same-length-2 c = search needs
@@ -36,8 +39,11 @@ same-length-3 c = search needs
 
 returns-2 : tie.Need-returns-2
 returns-2 c =
-    let g = c .before .before .before .before .before .before .before .before .before .before .before .before .before .before in
-    section-given _ _ _ (reads-table (g .args .bytes .now) (g .args .clauses .now) (g .args .nodes .now) (g .args .header) (g .pre .0) (g .pre .1)) (g .args .header .«node_count») _ (c .before .before .before .before .before .before .before .before .before .admit-nodes .ensures) _ (c .before .before .before .before .before .before .before .enum-told .given .1) _ _ _ _ _ (c .before .before .before .before .give-table .ensures)
+    let at-give-table = c .before .before .before .before in
+    let at-enum-told = at-give-table .before .before .before in
+    let at-admit-nodes = at-enum-told .before .before in
+    let g = at-admit-nodes .before .before .before .before .before in
+    section-given _ _ _ (reads-table (g .args .bytes .now) (g .args .clauses .now) (g .args .nodes .now) (g .args .header) (g .pre .0) (g .pre .1)) (g .args .header .«node_count») _ (at-admit-nodes .admit-nodes .ensures) _ (at-enum-told .enum-told .given .1) _ _ _ _ _ (at-give-table .give-table .ensures)
 
 pub read-table-spec : {M : Type 1} → statement M
 read-table-spec =

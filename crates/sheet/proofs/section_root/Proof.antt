@@ -24,13 +24,15 @@ slice-aggregate-ordered-root c = taken-long _ _ _ _ _ (c .before .before .fill-u
 
 ordered-root-requires : tie.Need-ordered-root-requires
 ordered-root-requires c κs =
-    let g = c .before .before .before .before .before in
-    (g .pre .0, g .pre .1, omega (arith, taken-long _ _ _ _ _ (c .before .before .fill-u32 .ensures)))
+    let at-fill-u32 = c .before .before in
+    let g = at-fill-u32 .before .before .before in
+    (g .pre .0, g .pre .1, omega (arith, taken-long _ _ _ _ _ (at-fill-u32 .fill-u32 .ensures)))
 
 returns : tie.Need-returns
 returns c =
-    let g = c .before .before .before .before .before .before in
-    c .ordered-root .ensures ∙ ap (λ w. replied (roots (g .args .n) (g .args .count) w)) (c .before .before .before .fill-u32 .ensures)
+    let at-fill-u32 = c .before .before .before in
+    let g = at-fill-u32 .before .before .before in
+    c .ordered-root .ensures ∙ ap (λ w. replied (roots (g .args .n) (g .args .count) w)) (at-fill-u32 .fill-u32 .ensures)
 
 pub section-root-spec : {M : Type 1} → statement M
 section-root-spec =

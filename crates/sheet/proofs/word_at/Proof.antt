@@ -26,24 +26,29 @@ add-byte-of c = search needs
 
 shared-slice-read-byte-of : tie.Need-shared-slice-read-byte-of Inv-loop μ-loop
 shared-slice-read-byte-of c =
-    let g = c .before .before .before .before in
-    omega (arith, g .pre .1, c .before .before .loop .inv .within, c .before .loop-test .taken)
+    let at-loop = c .before .before in
+    let g = at-loop .before .before in
+    omega (arith, g .pre .1, at-loop .loop .inv .within, c .before .loop-test .taken)
 
 byte-of-requires : tie.Need-byte-of-requires Inv-loop μ-loop
 byte-of-requires c κs = search needs
 
 add-word : tie.Need-add-word Inv-loop μ-loop
 add-word c =
-    let g = c .before .before .before .before .before in
-    omega (arith, c .byte-of .ensures .1, reading-fits _ _ _ _ _ (g .pre .0) (c .before .before .loop-test .taken) (c .before .before .before .loop .inv))
+    let at-loop-test = c .before .before in
+    let at-loop = at-loop-test .before in
+    let g = at-loop .before .before in
+    omega (arith, c .byte-of .ensures .1, reading-fits _ _ _ _ _ (g .pre .0) (at-loop-test .loop-test .taken) (at-loop .loop .inv))
 
 loop-less : tie.Need-loop-less Inv-loop μ-loop
 loop-less c = search needs
 
 loop-again : tie.Need-loop-again Inv-loop μ-loop
 loop-again c =
-    let g = c .before .before .before .before .before in
-    reading-more _ _ _ _ _ (g .pre .0) (c .before .before .loop-test .taken) (c .before .before .before .loop .inv) _ (c .byte-of .ensures .0) (c .byte-of .ensures .1)
+    let at-loop-test = c .before .before in
+    let at-loop = at-loop-test .before in
+    let g = at-loop .before .before in
+    reading-more _ _ _ _ _ (g .pre .0) (at-loop-test .loop-test .taken) (at-loop .loop .inv) _ (c .byte-of .ensures .0) (c .byte-of .ensures .1)
 
 returns : tie.Need-returns Inv-loop μ-loop
 returns c = reading-all _ _ _ _ _ (c .before .loop .inv) (omega (arith, c .loop-test .left))

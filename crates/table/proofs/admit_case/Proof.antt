@@ -23,25 +23,48 @@ refused-requires-2 : tie.Need-refused-requires-2
 refused-requires-2 c κs = search needs
 
 returns-2 : tie.Need-returns-2
-returns-2 c = c .refused2 .ensures ∙ short-refuses-case _ _ _ _ (sym (c .before .before .before .if1 .left) ∙ c .before .before .before .before .over-limit .ensures) (sym (c .before .if2 .taken) ∙ c .before .before .too-short .ensures)
+returns-2 c =
+    let at-too-short = c .before .before in
+    let at-if1 = at-too-short .before in
+    let at-over-limit = at-if1 .before in
+    c .refused2 .ensures ∙ short-refuses-case _ _ _ _ (sym (at-if1 .if1 .left) ∙ at-over-limit .over-limit .ensures) (sym (c .before .if2 .taken) ∙ at-too-short .too-short .ensures)
 
 over-case-requires : tie.Need-over-case-requires
 over-case-requires c κs = within _ _ (sym (c .before .before .if1 .left) ∙ c .before .before .before .over-limit .ensures) .marks
 
 lowest-over-requires : tie.Need-lowest-over-requires
-lowest-over-requires c κs = (within _ _ (sym (c .before .before .before .before .if1 .left) ∙ c .before .before .before .before .before .over-limit .ensures) .marks, sym (c .if3 .taken) ∙ c .before .over-case .ensures)
+lowest-over-requires c κs =
+    let at-if1 = c .before .before .before .before in
+    let at-over-limit = at-if1 .before in
+    (within _ _ (sym (at-if1 .if1 .left) ∙ at-over-limit .over-limit .ensures) .marks, sym (c .if3 .taken) ∙ c .before .over-case .ensures)
 
 returns-3 : tie.Need-returns-3
 unfolding inspectionReply
-returns-3 c = variable-refuses _ _ _ _ (sym (c .before .before .before .before .before .if1 .left) ∙ c .before .before .before .before .before .before .over-limit .ensures) (sym (c .before .before .before .if2 .left) ∙ c .before .before .before .before .too-short .ensures) (sym (c .before .if3 .taken) ∙ c .before .before .over-case .ensures) _ (c .lowest-over .ensures)
+returns-3 c =
+    let at-over-case = c .before .before in
+    let at-if2 = at-over-case .before in
+    let at-too-short = at-if2 .before in
+    let at-if1 = at-too-short .before in
+    let at-over-limit = at-if1 .before in
+    variable-refuses _ _ _ _ (sym (at-if1 .if1 .left) ∙ at-over-limit .over-limit .ensures) (sym (at-if2 .if2 .left) ∙ at-too-short .too-short .ensures) (sym (c .before .if3 .taken) ∙ at-over-case .over-case .ensures) _ (c .lowest-over .ensures)
 
 ordered-root-requires : tie.Need-ordered-root-requires
 ordered-root-requires c κs =
-    let in-limits : false ≡ overLimit _ _ = sym (c .before .before .before .before .if1 .left) ∙ c .before .before .before .before .before .over-limit .ensures in
-    (within _ _ in-limits .some, within _ _ in-limits .few, long _ _ (sym (c .before .before .if2 .left) ∙ c .before .before .before .too-short .ensures))
+    let at-if2 = c .before .before in
+    let at-too-short = at-if2 .before in
+    let at-if1 = at-too-short .before in
+    let at-over-limit = at-if1 .before in
+    let in-limits : false ≡ overLimit _ _ = sym (at-if1 .if1 .left) ∙ at-over-limit .over-limit .ensures in
+    (within _ _ in-limits .some, within _ _ in-limits .few, long _ _ (sym (at-if2 .if2 .left) ∙ at-too-short .too-short .ensures))
 
 returns-4 : tie.Need-returns-4
-returns-4 c = c .ordered-root .ensures ∙ table-decides-case _ _ _ _ (sym (c .before .before .before .before .before .if1 .left) ∙ c .before .before .before .before .before .before .over-limit .ensures) (sym (c .before .before .before .if2 .left) ∙ c .before .before .before .before .too-short .ensures) (sym (c .before .if3 .left) ∙ c .before .before .over-case .ensures)
+returns-4 c =
+    let at-over-case = c .before .before in
+    let at-if2 = at-over-case .before in
+    let at-too-short = at-if2 .before in
+    let at-if1 = at-too-short .before in
+    let at-over-limit = at-if1 .before in
+    c .ordered-root .ensures ∙ table-decides-case _ _ _ _ (sym (at-if1 .if1 .left) ∙ at-over-limit .over-limit .ensures) (sym (at-if2 .if2 .left) ∙ at-too-short .too-short .ensures) (sym (c .before .if3 .left) ∙ at-over-case .over-case .ensures)
 
 pub admit-case-spec : {M : Type 1} → statement M
 admit-case-spec =

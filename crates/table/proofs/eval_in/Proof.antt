@@ -26,11 +26,17 @@ says-yes-requires c κs = case-sound _ _ _ _ _ (c .before .before .before .admit
 
 returns-2 : tie.Need-returns-2
 unfolding truthReply
-returns-2 c = case-answers _ _ _ _ _ (c .before .before .before .before .before .admit-case .ensures) _ (c .before .before .before .admitted .given .1) true (sym (c .if1 .taken) ∙ c .before .says-yes .ensures)
+returns-2 c =
+    let at-admitted = c .before .before .before in
+    let at-admit-case = at-admitted .before .before in
+    case-answers _ _ _ _ _ (at-admit-case .admit-case .ensures) _ (at-admitted .admitted .given .1) true (sym (c .if1 .taken) ∙ c .before .says-yes .ensures)
 
 returns-3 : tie.Need-returns-3
 unfolding truthReply
-returns-3 c = case-answers _ _ _ _ _ (c .before .before .before .before .before .admit-case .ensures) _ (c .before .before .before .admitted .given .1) false (sym (c .if1 .left) ∙ c .before .says-yes .ensures)
+returns-3 c =
+    let at-admitted = c .before .before .before in
+    let at-admit-case = at-admitted .before .before in
+    case-answers _ _ _ _ _ (at-admit-case .admit-case .ensures) _ (at-admitted .admitted .given .1) false (sym (c .if1 .left) ∙ c .before .says-yes .ensures)
 
 pub eval-in-spec : {M : Type 1} → statement M
 eval-in-spec =

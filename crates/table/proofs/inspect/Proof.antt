@@ -22,7 +22,11 @@ refused-requires-2 : tie.Need-refused-requires-2
 refused-requires-2 c κs = search needs
 
 returns-2 : tie.Need-returns-2
-returns-2 c = c .refused2 .ensures ∙ short-refuses _ _ _ (sym (c .before .before .before .if1 .left) ∙ c .before .before .before .before .over-limit .ensures) (sym (c .before .if2 .taken) ∙ c .before .before .too-short .ensures)
+returns-2 c =
+    let at-too-short = c .before .before in
+    let at-if1 = at-too-short .before in
+    let at-over-limit = at-if1 .before in
+    c .refused2 .ensures ∙ short-refuses _ _ _ (sym (at-if1 .if1 .left) ∙ at-over-limit .over-limit .ensures) (sym (c .before .if2 .taken) ∙ at-too-short .too-short .ensures)
 
 ordered-root-requires : tie.Need-ordered-root-requires
 ordered-root-requires c κs =
@@ -30,7 +34,11 @@ ordered-root-requires c κs =
     (within _ _ in-limits .some, within _ _ in-limits .few, long _ _ (sym (c .if2 .left) ∙ c .before .too-short .ensures))
 
 returns-3 : tie.Need-returns-3
-returns-3 c = c .ordered-root .ensures ∙ table-decides _ _ _ (sym (c .before .before .before .if1 .left) ∙ c .before .before .before .before .over-limit .ensures) (sym (c .before .if2 .left) ∙ c .before .before .too-short .ensures)
+returns-3 c =
+    let at-too-short = c .before .before in
+    let at-if1 = at-too-short .before in
+    let at-over-limit = at-if1 .before in
+    c .ordered-root .ensures ∙ table-decides _ _ _ (sym (at-if1 .if1 .left) ∙ at-over-limit .over-limit .ensures) (sym (c .before .if2 .left) ∙ at-too-short .too-short .ensures)
 
 pub inspect-spec : {M : Type 1} → statement M
 inspect-spec =

@@ -24,7 +24,12 @@ link-ok-requires : tie.Need-link-ok-requires
 link-ok-requires c κs = search needs
 
 returns-3 : tie.Need-returns-3
-returns-3 c = low-fails _ _ _ (search needs) _ _ (c .before .before .before .before .mark-word .ensures) (c .before .before .before .before .before .if1 .left) (c .before .before .before .if2 .left) _ (c .before .before .low-link-of .ensures) (sym (not-true _ (c .if3 .taken)) ∙ c .before .link-ok .ensures)
+returns-3 c =
+    let at-low-link-of = c .before .before in
+    let at-if2 = at-low-link-of .before in
+    let at-mark-word = at-if2 .before in
+    let at-if1 = at-mark-word .before in
+    low-fails _ _ _ (search needs) _ _ (at-mark-word .mark-word .ensures) (at-if1 .if1 .left) (at-if2 .if2 .left) _ (at-low-link-of .low-link-of .ensures) (sym (not-true _ (c .if3 .taken)) ∙ c .before .link-ok .ensures)
 
 high-link-of-requires : tie.Need-high-link-of-requires
 high-link-of-requires c κs = search needs
@@ -33,7 +38,14 @@ link-ok-requires-2 : tie.Need-link-ok-requires-2
 link-ok-requires-2 c κs = search needs
 
 returns-4 : tie.Need-returns-4
-returns-4 c = links-decide _ _ _ (search needs) _ _ (c .before .before .before .before .before .before .mark-word .ensures) (c .before .before .before .before .before .before .before .if1 .left) (c .before .before .before .before .before .if2 .left) _ (c .before .before .before .before .low-link-of .ensures) (sym (not-false _ (c .before .before .if3 .left)) ∙ c .before .before .before .link-ok .ensures) _ (c .before .high-link-of .ensures) _ (c .link-ok2 .ensures)
+returns-4 c =
+    let at-if3 = c .before .before in
+    let at-link-ok = at-if3 .before in
+    let at-low-link-of = at-link-ok .before in
+    let at-if2 = at-low-link-of .before in
+    let at-mark-word = at-if2 .before in
+    let at-if1 = at-mark-word .before in
+    links-decide _ _ _ (search needs) _ _ (at-mark-word .mark-word .ensures) (at-if1 .if1 .left) (at-if2 .if2 .left) _ (at-low-link-of .low-link-of .ensures) (sym (not-false _ (at-if3 .if3 .left)) ∙ at-link-ok .link-ok .ensures) _ (c .before .high-link-of .ensures) _ (c .link-ok2 .ensures)
 
 pub node-ok-spec : {M : Type 1} → statement M
 node-ok-spec =

@@ -13,16 +13,28 @@ loop-holds : tie.Need-loop-holds Inv-loop μ-loop
 loop-holds c = at-root _ _ _ _ _ (c .before .pre)
 
 child-for-requires : tie.Need-child-for-requires Inv-loop μ-loop
-child-for-requires c κs = (omega (arith, c .before .before .loop .inv .lies, c .before .before .before .before .pre .long), mark-fits _ _ _ _ _ (c .before .before .before .before .pre) _ (c .before .before .loop .inv) (c .if1 .taken))
+child-for-requires c κs =
+    let at-loop = c .before .before in
+    let start = at-loop .before .before in
+    (omega (arith, at-loop .loop .inv .lies, start .pre .long), mark-fits _ _ _ _ _ (start .pre) _ (at-loop .loop .inv) (c .if1 .taken))
 
 loop-less : tie.Need-loop-less Inv-loop μ-loop
-loop-less c = goes-down _ _ _ _ _ (c .before .before .before .before .before .pre) _ (c .before .before .before .loop .inv) (c .before .if1 .taken) _ (c .child-for .ensures)
+loop-less c =
+    let at-loop = c .before .before .before in
+    let start = at-loop .before .before in
+    goes-down _ _ _ _ _ (start .pre) _ (at-loop .loop .inv) (c .before .if1 .taken) _ (c .child-for .ensures)
 
 loop-again : tie.Need-loop-again Inv-loop μ-loop
-loop-again c = goes-on _ _ _ _ _ (c .before .before .before .before .before .pre) _ (c .before .before .before .loop .inv) (c .before .if1 .taken) _ (c .child-for .ensures)
+loop-again c =
+    let at-loop = c .before .before .before in
+    let start = at-loop .before .before in
+    goes-on _ _ _ _ _ (start .pre) _ (at-loop .loop .inv) (c .before .if1 .taken) _ (c .child-for .ensures)
 
 returns : tie.Need-returns Inv-loop μ-loop
-returns c = ends _ _ _ _ _ (c .before .before .before .before .before .pre) _ (c .before .before .before .loop .inv) (omega (arith, c .before .if1 .left))
+returns c =
+    let at-loop = c .before .before .before in
+    let start = at-loop .before .before in
+    ends _ _ _ _ _ (start .pre) _ (at-loop .loop .inv) (omega (arith, c .before .if1 .left))
 
 pub says-yes-spec : {M : Type 1} → statement M
 says-yes-spec =

@@ -24,8 +24,10 @@ shared-slice-read-put-byte c = c .before .before .loop-test .taken
 
 put-byte-requires : tie.Need-put-byte-requires Inv-loop μ-loop
 put-byte-requires c κs =
-    let g = c .before .before .before .before .before .before in
-    loop-fits (λ i. take i (g .args .bytes .now)) (λ i. getD (g .args .bytes .now) i 0 ∷ []) (length (g .args .bytes .now)) (λ i h. take-suc (g .args .bytes .now) i 0 h) _ _ _ _ _ (c .before .before .loop-test .taken) (c .before .before .before .loop .inv .1) (all-fits _ _ _ (g .pre)) (c .before .before .before .loop .inv .2)
+    let at-loop-test = c .before .before in
+    let at-loop = at-loop-test .before in
+    let g = at-loop .before .before .before in
+    loop-fits (λ i. take i (g .args .bytes .now)) (λ i. getD (g .args .bytes .now) i 0 ∷ []) (length (g .args .bytes .now)) (λ i h. take-suc (g .args .bytes .now) i 0 h) _ _ _ _ _ (at-loop-test .loop-test .taken) (at-loop .loop .inv .1) (all-fits _ _ _ (g .pre)) (at-loop .loop .inv .2)
 
 add-i : tie.Need-add-i Inv-loop μ-loop
 add-i c = search needs
@@ -35,8 +37,11 @@ loop-less c = search needs
 
 loop-again : tie.Need-loop-again Inv-loop μ-loop
 loop-again c =
-    let g = c .before .before .before .before .before .before .before .before .before in
-    (omega (arith, c .before .before .before .before .before .loop-test .taken), loop-appends (λ i. take i (g .args .bytes .now)) (λ i. getD (g .args .bytes .now) i 0 ∷ []) (length (g .args .bytes .now)) (λ i h. take-suc (g .args .bytes .now) i 0 h) _ _ _ _ _ (c .before .before .before .before .before .loop-test .taken) (c .before .before .before .before .before .before .loop .inv .1) _ _ (c .before .before .put-byte .ensures), c .before .before .put-byte .kept .0 ∙ c .before .before .before .before .before .before .loop .inv .2)
+    let at-put-byte = c .before .before in
+    let at-loop-test = at-put-byte .before .before .before in
+    let at-loop = at-loop-test .before in
+    let g = at-loop .before .before .before in
+    (omega (arith, at-loop-test .loop-test .taken), loop-appends (λ i. take i (g .args .bytes .now)) (λ i. getD (g .args .bytes .now) i 0 ∷ []) (length (g .args .bytes .now)) (λ i h. take-suc (g .args .bytes .now) i 0 h) _ _ _ _ _ (at-loop-test .loop-test .taken) (at-loop .loop .inv .1) _ _ (at-put-byte .put-byte .ensures), at-put-byte .put-byte .kept .0 ∙ at-loop .loop .inv .2)
 
 same-length : tie.Need-same-length Inv-loop μ-loop
 same-length c = c .before .loop .inv .2

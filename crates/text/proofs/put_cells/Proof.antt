@@ -28,8 +28,10 @@ cell-char-requires c κs =
 
 put-byte-requires : tie.Need-put-byte-requires Inv-loop μ-loop
 put-byte-requires c κs =
-    let g = c .before .before .before .before .before in
-    byte-fits _ _ _ _ (loop-fits (λ i. cellChars i (clause (g .args .fixed) (g .args .values))) (λ i. cellChar (cell (clause (g .args .fixed) (g .args .values)) i) ∷ []) (g .args .n) (λ i h. cells-step (clause (g .args .fixed) (g .args .values)) i) _ _ _ _ _ (c .before .before .loop-test .taken) (c .before .before .before .loop .inv .1) (g .pre .1) (c .before .before .before .loop .inv .2))
+    let at-loop-test = c .before .before in
+    let at-loop = at-loop-test .before in
+    let g = at-loop .before .before in
+    byte-fits _ _ _ _ (loop-fits (λ i. cellChars i (clause (g .args .fixed) (g .args .values))) (λ i. cellChar (cell (clause (g .args .fixed) (g .args .values)) i) ∷ []) (g .args .n) (λ i h. cells-step (clause (g .args .fixed) (g .args .values)) i) _ _ _ _ _ (at-loop-test .loop-test .taken) (at-loop .loop .inv .1) (g .pre .1) (at-loop .loop .inv .2))
 
 add-i : tie.Need-add-i Inv-loop μ-loop
 add-i c = search needs
@@ -39,8 +41,12 @@ loop-less c = search needs
 
 loop-again : tie.Need-loop-again Inv-loop μ-loop
 loop-again c =
-    let g = c .before .before .before .before .before .before .before .before in
-    (omega (arith, c .before .before .before .before .before .loop-test .taken), loop-appends (λ i. cellChars i (clause (g .args .fixed) (g .args .values))) (λ i. cellChar (cell (clause (g .args .fixed) (g .args .values)) i) ∷ []) (g .args .n) (λ i h. cells-step (clause (g .args .fixed) (g .args .values)) i) _ _ _ _ _ (c .before .before .before .before .before .loop-test .taken) (c .before .before .before .before .before .before .loop .inv .1) _ _ (appends-is _ _ _ _ _ _ (ap (λ x. x ∷ []) (c .before .before .before .cell-char .ensures)) (c .before .before .put-byte .ensures)), c .before .before .put-byte .kept .0 ∙ c .before .before .before .before .before .before .loop .inv .2)
+    let at-put-byte = c .before .before in
+    let at-cell-char = at-put-byte .before in
+    let at-loop-test = at-cell-char .before .before in
+    let at-loop = at-loop-test .before in
+    let g = at-loop .before .before in
+    (omega (arith, at-loop-test .loop-test .taken), loop-appends (λ i. cellChars i (clause (g .args .fixed) (g .args .values))) (λ i. cellChar (cell (clause (g .args .fixed) (g .args .values)) i) ∷ []) (g .args .n) (λ i h. cells-step (clause (g .args .fixed) (g .args .values)) i) _ _ _ _ _ (at-loop-test .loop-test .taken) (at-loop .loop .inv .1) _ _ (appends-is _ _ _ _ _ _ (ap (λ x. x ∷ []) (at-cell-char .cell-char .ensures)) (at-put-byte .put-byte .ensures)), at-put-byte .put-byte .kept .0 ∙ at-loop .loop .inv .2)
 
 same-length : tie.Need-same-length Inv-loop μ-loop
 same-length c = c .before .loop .inv .2

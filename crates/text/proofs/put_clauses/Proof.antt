@@ -28,8 +28,9 @@ mul-put-clause-2 c = search needs
 
 shared-slice-read-put-clause : tie.Need-shared-slice-read-put-clause Inv-loop μ-loop
 shared-slice-read-put-clause c =
-    let g = c .before .before .before .before .before .before in
-    omega (arith, c .before .before .loop-test .taken, g .pre .1)
+    let at-loop-test = c .before .before in
+    let g = at-loop-test .before .before .before .before in
+    omega (arith, at-loop-test .loop-test .taken, g .pre .1)
 
 mul-put-clause-3 : tie.Need-mul-put-clause-3 Inv-loop μ-loop
 mul-put-clause-3 c = search needs
@@ -42,13 +43,16 @@ mul-put-clause-4 c = search needs
 
 shared-slice-read-put-clause-2 : tie.Need-shared-slice-read-put-clause-2 Inv-loop μ-loop
 shared-slice-read-put-clause-2 c =
-    let g = c .before .before .before .before .before .before .before in
-    omega (arith, c .before .before .before .loop-test .taken, g .pre .1)
+    let at-loop-test = c .before .before .before in
+    let g = at-loop-test .before .before .before .before in
+    omega (arith, at-loop-test .loop-test .taken, g .pre .1)
 
 put-clause-requires : tie.Need-put-clause-requires Inv-loop μ-loop
 put-clause-requires c κs =
-    let g = c .before .before .before .before .before .before .before in
-    (g .pre .0, loop-fits (clauseLines (g .args .n) (g .args .list .now)) (λ i. clauseLine (g .args .n) (clauseAt (g .args .list .now) i)) (g .args .count) (λ i h. lines-step (g .args .n) (g .args .list .now) i) _ _ _ _ _ (c .before .before .before .loop-test .taken) (c .before .before .before .before .loop .inv .1) (g .pre .2) (c .before .before .before .before .loop .inv .2))
+    let at-loop-test = c .before .before .before in
+    let at-loop = at-loop-test .before in
+    let g = at-loop .before .before .before in
+    (g .pre .0, loop-fits (clauseLines (g .args .n) (g .args .list .now)) (λ i. clauseLine (g .args .n) (clauseAt (g .args .list .now) i)) (g .args .count) (λ i h. lines-step (g .args .n) (g .args .list .now) i) _ _ _ _ _ (at-loop-test .loop-test .taken) (at-loop .loop .inv .1) (g .pre .2) (at-loop .loop .inv .2))
 
 add-i : tie.Need-add-i Inv-loop μ-loop
 add-i c = search needs
@@ -58,8 +62,11 @@ loop-less c = search needs
 
 loop-again : tie.Need-loop-again Inv-loop μ-loop
 loop-again c =
-    let g = c .before .before .before .before .before .before .before .before .before .before in
-    (omega (arith, c .before .before .before .before .before .before .loop-test .taken), loop-appends (clauseLines (g .args .n) (g .args .list .now)) (λ i. clauseLine (g .args .n) (clauseAt (g .args .list .now) i)) (g .args .count) (λ i h. lines-step (g .args .n) (g .args .list .now) i) _ _ _ _ _ (c .before .before .before .before .before .before .loop-test .taken) (c .before .before .before .before .before .before .before .loop .inv .1) _ _ (c .before .before .put-clause .ensures), c .before .before .put-clause .kept .0 ∙ c .before .before .before .before .before .before .before .loop .inv .2)
+    let at-put-clause = c .before .before in
+    let at-loop-test = at-put-clause .before .before .before .before in
+    let at-loop = at-loop-test .before in
+    let g = at-loop .before .before .before in
+    (omega (arith, at-loop-test .loop-test .taken), loop-appends (clauseLines (g .args .n) (g .args .list .now)) (λ i. clauseLine (g .args .n) (clauseAt (g .args .list .now) i)) (g .args .count) (λ i h. lines-step (g .args .n) (g .args .list .now) i) _ _ _ _ _ (at-loop-test .loop-test .taken) (at-loop .loop .inv .1) _ _ (at-put-clause .put-clause .ensures), at-put-clause .put-clause .kept .0 ∙ at-loop .loop .inv .2)
 
 same-length : tie.Need-same-length Inv-loop μ-loop
 same-length c = c .before .loop .inv .2

@@ -12,21 +12,27 @@ put-bytes-requires c κs =
 
 put-decimal-requires : tie.Need-put-decimal-requires
 put-decimal-requires c κs =
-    let g = c .before .before .before .before .before .before .before in
-    fits-first (decimal (g .args .number)) (lineEnd ∷ []) _ (c .before .before .before .put-bytes .last .0) _ 0 (fits-then (g .args .word .now) (decimal (g .args .number) ++ (lineEnd ∷ [])) (g .args .out .now) _ (g .args .at) _ (g .pre) (c .before .before .before .put-bytes .ensures) (c .before .before .before .put-bytes .kept .0))
+    let at-put-bytes = c .before .before .before in
+    let g = at-put-bytes .before .before .before .before in
+    fits-first (decimal (g .args .number)) (lineEnd ∷ []) _ (at-put-bytes .put-bytes .last .0) _ 0 (fits-then (g .args .word .now) (decimal (g .args .number) ++ (lineEnd ∷ [])) (g .args .out .now) _ (g .args .at) _ (g .pre) (at-put-bytes .put-bytes .ensures) (at-put-bytes .put-bytes .kept .0))
 
 put-byte-requires : tie.Need-put-byte-requires
 put-byte-requires c κs =
-    let g = c .before .before .before .before .before .before .before .before .before .before .before in
-    fits-then (decimal (g .args .number)) (lineEnd ∷ []) _ _ _ _ (fits-then (g .args .word .now) (decimal (g .args .number) ++ (lineEnd ∷ [])) (g .args .out .now) _ (g .args .at) _ (g .pre) (c .before .before .before .before .before .before .before .put-bytes .ensures) (c .before .before .before .before .before .before .before .put-bytes .kept .0)) (c .before .before .before .put-decimal .ensures) (c .before .before .before .put-decimal .kept .0)
+    let at-put-decimal = c .before .before .before in
+    let at-put-bytes = at-put-decimal .before .before .before .before in
+    let g = at-put-bytes .before .before .before .before in
+    fits-then (decimal (g .args .number)) (lineEnd ∷ []) _ _ _ _ (fits-then (g .args .word .now) (decimal (g .args .number) ++ (lineEnd ∷ [])) (g .args .out .now) _ (g .args .at) _ (g .pre) (at-put-bytes .put-bytes .ensures) (at-put-bytes .put-bytes .kept .0)) (at-put-decimal .put-decimal .ensures) (at-put-decimal .put-decimal .kept .0)
 
 same-length : tie.Need-same-length
 same-length c = search needs
 
 returns : tie.Need-returns
 returns c =
-    let g = c .before .before .before .before .before .before .before .before .before .before .before .before .before .before in
-    appends-then (g .args .word .now) (decimal (g .args .number) ++ (lineEnd ∷ [])) (g .args .out .now) _ (g .args .at) _ _ _ (c .before .before .before .before .before .before .before .before .before .before .put-bytes .ensures) (appends-then (decimal (g .args .number)) (lineEnd ∷ []) _ _ _ _ _ _ (c .before .before .before .before .before .before .put-decimal .ensures) (c .before .before .put-byte .ensures))
+    let at-put-byte = c .before .before in
+    let at-put-decimal = at-put-byte .before .before .before .before in
+    let at-put-bytes = at-put-decimal .before .before .before .before in
+    let g = at-put-bytes .before .before .before .before in
+    appends-then (g .args .word .now) (decimal (g .args .number) ++ (lineEnd ∷ [])) (g .args .out .now) _ (g .args .at) _ _ _ (at-put-bytes .put-bytes .ensures) (appends-then (decimal (g .args .number)) (lineEnd ∷ []) _ _ _ _ _ _ (at-put-decimal .put-decimal .ensures) (at-put-byte .put-byte .ensures))
 
 pub put-count-spec : {M : Type 1} → statement M
 put-count-spec =

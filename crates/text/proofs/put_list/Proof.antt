@@ -12,16 +12,22 @@ put-count-requires c κs =
 
 put-clauses-requires : tie.Need-put-clauses-requires
 put-clauses-requires c κs =
-    let g = c .before .before .before .before .before .before .before .before in
-    (g .pre .0, g .pre .1, fits-then (countLine (g .args .word .now) (g .args .count)) (clauseLines (g .args .n) (g .args .list .now) (g .args .count)) _ _ _ _ (g .pre .2) (c .before .before .before .put-count .ensures) (c .before .before .before .put-count .kept .0))
+    let at-put-count = c .before .before .before in
+    let g = at-put-count .before .before .before .before .before in
+    (g .pre .0, g .pre .1, fits-then (countLine (g .args .word .now) (g .args .count)) (clauseLines (g .args .n) (g .args .list .now) (g .args .count)) _ _ _ _ (g .pre .2) (at-put-count .put-count .ensures) (at-put-count .put-count .kept .0))
 
 same-length : tie.Need-same-length
-same-length c = c .before .before .put-clauses .kept .0 ∙ c .before .before .before .before .before .before .put-count .kept .0
+same-length c =
+    let at-put-clauses = c .before .before in
+    let at-put-count = at-put-clauses .before .before .before .before in
+    at-put-clauses .put-clauses .kept .0 ∙ at-put-count .put-count .kept .0
 
 returns : tie.Need-returns
 returns c =
-    let g = c .before .before .before .before .before .before .before .before .before .before .before in
-    appends-then (countLine (g .args .word .now) (g .args .count)) (clauseLines (g .args .n) (g .args .list .now) (g .args .count)) _ _ _ _ _ _ (c .before .before .before .before .before .before .put-count .ensures) (c .before .before .put-clauses .ensures)
+    let at-put-clauses = c .before .before in
+    let at-put-count = at-put-clauses .before .before .before .before in
+    let g = at-put-count .before .before .before .before .before in
+    appends-then (countLine (g .args .word .now) (g .args .count)) (clauseLines (g .args .n) (g .args .list .now) (g .args .count)) _ _ _ _ _ _ (at-put-count .put-count .ensures) (at-put-clauses .put-clauses .ensures)
 
 pub put-list-spec : {M : Type 1} → statement M
 put-list-spec = tie.close (tie.spec put-count-requires put-clauses-requires same-length returns)

@@ -24,9 +24,10 @@ slice-aggregate-put-count-2 c = search needs
 put-count-requires-2 : tie.Need-put-count-requires-2
 unfolding wholeText
 put-count-requires-2 c κs =
-    let g = c .before .before .before .before .before .before .before .before .before .before in
+    let at-put-count = c .before .before .before .before in
+    let g = at-put-count .before .before .before .before .before .before in
     let fits = whole-fits (g .args .out .now) (g .pre .5) (g .args .n) (g .args .count) (g .args .dnf-count) (g .args .dnf .now) (g .args .cnf-count) (g .args .cnf .now) (g .pre .0) (omega arith) (g .pre .3) (g .pre .4) in
-    let vars = c .before .before .before .before .put-count in
+    let vars = at-put-count .put-count in
     fits-first (countLine nodesWord (g .args .count)) ((listText dnfWord (g .args .n) (g .args .dnf-count) (g .args .dnf .now)) ++ (listText cnfWord (g .args .n) (g .args .cnf-count) (g .args .cnf .now))) _ [] _ 0 (fits-then (countLine varsWord (g .args .n)) ((countLine nodesWord (g .args .count)) ++ ((listText dnfWord (g .args .n) (g .args .dnf-count) (g .args .dnf .now)) ++ (listText cnfWord (g .args .n) (g .args .cnf-count) (g .args .cnf .now)))) _ _ _ _ (fits) (vars .ensures) (vars .kept .0))
 
 slice-aggregate-put-list : tie.Need-slice-aggregate-put-list
@@ -35,10 +36,12 @@ slice-aggregate-put-list c = search needs
 put-list-requires : tie.Need-put-list-requires
 unfolding wholeText
 put-list-requires c κs =
-    let g = c .before .before .before .before .before .before .before .before .before .before .before .before .before .before .before in
+    let at-put-count2 = c .before .before .before .before in
+    let at-put-count = at-put-count2 .before .before .before .before .before in
+    let g = at-put-count .before .before .before .before .before .before in
     let fits = whole-fits (g .args .out .now) (g .pre .5) (g .args .n) (g .args .count) (g .args .dnf-count) (g .args .dnf .now) (g .args .cnf-count) (g .args .cnf .now) (g .pre .0) (omega arith) (g .pre .3) (g .pre .4) in
-    let vars = c .before .before .before .before .before .before .before .before .before .put-count in
-    let nodes = c .before .before .before .before .put-count2 in
+    let vars = at-put-count .put-count in
+    let nodes = at-put-count2 .put-count2 in
     (g .pre .0, g .pre .1, fits-first (listText dnfWord (g .args .n) (g .args .dnf-count) (g .args .dnf .now)) (listText cnfWord (g .args .n) (g .args .cnf-count) (g .args .cnf .now)) _ [] _ 0 (fits-then (countLine nodesWord (g .args .count)) ((listText dnfWord (g .args .n) (g .args .dnf-count) (g .args .dnf .now)) ++ (listText cnfWord (g .args .n) (g .args .cnf-count) (g .args .cnf .now))) _ _ _ _ (fits-then (countLine varsWord (g .args .n)) ((countLine nodesWord (g .args .count)) ++ ((listText dnfWord (g .args .n) (g .args .dnf-count) (g .args .dnf .now)) ++ (listText cnfWord (g .args .n) (g .args .cnf-count) (g .args .cnf .now)))) _ _ _ _ (fits) (vars .ensures) (vars .kept .0)) (nodes .ensures) (nodes .kept .0)))
 
 slice-aggregate-put-list-2 : tie.Need-slice-aggregate-put-list-2
@@ -47,42 +50,59 @@ slice-aggregate-put-list-2 c = search needs
 put-list-requires-2 : tie.Need-put-list-requires-2
 unfolding wholeText
 put-list-requires-2 c κs =
-    let g = c .before .before .before .before .before .before .before .before .before .before .before .before .before .before .before .before .before .before .before .before in
+    let at-put-list = c .before .before .before .before in
+    let at-put-count2 = at-put-list .before .before .before .before .before in
+    let at-put-count = at-put-count2 .before .before .before .before .before in
+    let g = at-put-count .before .before .before .before .before .before in
     let fits = whole-fits (g .args .out .now) (g .pre .5) (g .args .n) (g .args .count) (g .args .dnf-count) (g .args .dnf .now) (g .args .cnf-count) (g .args .cnf .now) (g .pre .0) (omega arith) (g .pre .3) (g .pre .4) in
-    let vars = c .before .before .before .before .before .before .before .before .before .before .before .before .before .before .put-count in
-    let nodes = c .before .before .before .before .before .before .before .before .before .put-count2 in
-    let dnfs = c .before .before .before .before .put-list in
+    let vars = at-put-count .put-count in
+    let nodes = at-put-count2 .put-count2 in
+    let dnfs = at-put-list .put-list in
     (g .pre .0, g .pre .2, fits-then (listText dnfWord (g .args .n) (g .args .dnf-count) (g .args .dnf .now)) (listText cnfWord (g .args .n) (g .args .cnf-count) (g .args .cnf .now)) _ _ _ _ (fits-then (countLine nodesWord (g .args .count)) ((listText dnfWord (g .args .n) (g .args .dnf-count) (g .args .dnf .now)) ++ (listText cnfWord (g .args .n) (g .args .cnf-count) (g .args .cnf .now))) _ _ _ _ (fits-then (countLine varsWord (g .args .n)) ((countLine nodesWord (g .args .count)) ++ ((listText dnfWord (g .args .n) (g .args .dnf-count) (g .args .dnf .now)) ++ (listText cnfWord (g .args .n) (g .args .cnf-count) (g .args .cnf .now)))) _ _ _ _ (fits) (vars .ensures) (vars .kept .0)) (nodes .ensures) (nodes .kept .0)) (dnfs .ensures) (dnfs .kept .0))
 
 zero-u8-from-requires : tie.Need-zero-u8-from-requires
 unfolding wholeText
 zero-u8-from-requires c κs =
-    let g = c .before .before .before .before .before .before .before .before .before .before .before .before .before .before .before .before .before .before .before .before .before .before .before .before in
+    let at-put-list2 = c .before .before .before in
+    let at-put-list = at-put-list2 .before .before .before .before .before in
+    let at-put-count2 = at-put-list .before .before .before .before .before in
+    let at-put-count = at-put-count2 .before .before .before .before .before in
+    let g = at-put-count .before .before .before .before .before .before in
     let fits = whole-fits (g .args .out .now) (g .pre .5) (g .args .n) (g .args .count) (g .args .dnf-count) (g .args .dnf .now) (g .args .cnf-count) (g .args .cnf .now) (g .pre .0) (omega arith) (g .pre .3) (g .pre .4) in
-    let vars = c .before .before .before .before .before .before .before .before .before .before .before .before .before .before .before .before .before .before .put-count in
-    let nodes = c .before .before .before .before .before .before .before .before .before .before .before .before .before .put-count2 in
-    let dnfs = c .before .before .before .before .before .before .before .before .put-list in
-    let cnfs = c .before .before .before .put-list2 in
+    let vars = at-put-count .put-count in
+    let nodes = at-put-count2 .put-count2 in
+    let dnfs = at-put-list .put-list in
+    let cnfs = at-put-list2 .put-list2 in
     appended-within _ _ _ _ _ (fits) (appends-then (countLine varsWord (g .args .n)) ((countLine nodesWord (g .args .count)) ++ ((listText dnfWord (g .args .n) (g .args .dnf-count) (g .args .dnf .now)) ++ (listText cnfWord (g .args .n) (g .args .cnf-count) (g .args .cnf .now)))) _ _ _ _ _ _ (vars .ensures) (appends-then (countLine nodesWord (g .args .count)) ((listText dnfWord (g .args .n) (g .args .dnf-count) (g .args .dnf .now)) ++ (listText cnfWord (g .args .n) (g .args .cnf-count) (g .args .cnf .now))) _ _ _ _ _ _ (nodes .ensures) (appends-then (listText dnfWord (g .args .n) (g .args .dnf-count) (g .args .dnf .now)) (listText cnfWord (g .args .n) (g .args .cnf-count) (g .args .cnf .now)) _ _ _ _ _ _ (dnfs .ensures) (cnfs .ensures)))) (cnfs .kept .0 ∙ dnfs .kept .0 ∙ nodes .kept .0 ∙ vars .kept .0)
 
 same-length : tie.Need-same-length
 same-length c =
-    let vars = c .before .before .before .before .before .before .before .before .before .before .before .before .before .before .before .before .before .before .before .before .before .put-count in
-    let nodes = c .before .before .before .before .before .before .before .before .before .before .before .before .before .before .before .before .put-count2 in
-    let dnfs = c .before .before .before .before .before .before .before .before .before .before .before .put-list in
-    let cnfs = c .before .before .before .before .before .before .put-list2 in
-    c .before .before .zero-u8-from .kept .0 ∙ (cnfs .kept .0 ∙ dnfs .kept .0 ∙ nodes .kept .0 ∙ vars .kept .0)
+    let at-zero-u8-from = c .before .before in
+    let at-put-list2 = at-zero-u8-from .before .before .before .before in
+    let at-put-list = at-put-list2 .before .before .before .before .before in
+    let at-put-count2 = at-put-list .before .before .before .before .before in
+    let at-put-count = at-put-count2 .before .before .before .before .before in
+    let vars = at-put-count .put-count in
+    let nodes = at-put-count2 .put-count2 in
+    let dnfs = at-put-list .put-list in
+    let cnfs = at-put-list2 .put-list2 in
+    at-zero-u8-from .zero-u8-from .kept .0 ∙ (cnfs .kept .0 ∙ dnfs .kept .0 ∙ nodes .kept .0 ∙ vars .kept .0)
 
 returns : tie.Need-returns
 unfolding wholeText
 returns c =
-    let g = c .before .before .before .before .before .before .before .before .before .before .before .before .before .before .before .before .before .before .before .before .before .before .before .before .before .before .before in
+    let at-zero-u8-from = c .before .before in
+    let at-put-list2 = at-zero-u8-from .before .before .before .before in
+    let at-put-list = at-put-list2 .before .before .before .before .before in
+    let at-put-count2 = at-put-list .before .before .before .before .before in
+    let at-put-count = at-put-count2 .before .before .before .before .before in
+    let g = at-put-count .before .before .before .before .before .before in
     let fits = whole-fits (g .args .out .now) (g .pre .5) (g .args .n) (g .args .count) (g .args .dnf-count) (g .args .dnf .now) (g .args .cnf-count) (g .args .cnf .now) (g .pre .0) (omega arith) (g .pre .3) (g .pre .4) in
-    let vars = c .before .before .before .before .before .before .before .before .before .before .before .before .before .before .before .before .before .before .before .before .before .put-count in
-    let nodes = c .before .before .before .before .before .before .before .before .before .before .before .before .before .before .before .before .put-count2 in
-    let dnfs = c .before .before .before .before .before .before .before .before .before .before .before .put-list in
-    let cnfs = c .before .before .before .before .before .before .put-list2 in
-    prints _ _ _ _ _ (fits) (appends-then (countLine varsWord (g .args .n)) ((countLine nodesWord (g .args .count)) ++ ((listText dnfWord (g .args .n) (g .args .dnf-count) (g .args .dnf .now)) ++ (listText cnfWord (g .args .n) (g .args .cnf-count) (g .args .cnf .now)))) _ _ _ _ _ _ (vars .ensures) (appends-then (countLine nodesWord (g .args .count)) ((listText dnfWord (g .args .n) (g .args .dnf-count) (g .args .dnf .now)) ++ (listText cnfWord (g .args .n) (g .args .cnf-count) (g .args .cnf .now))) _ _ _ _ _ _ (nodes .ensures) (appends-then (listText dnfWord (g .args .n) (g .args .dnf-count) (g .args .dnf .now)) (listText cnfWord (g .args .n) (g .args .cnf-count) (g .args .cnf .now)) _ _ _ _ _ _ (dnfs .ensures) (cnfs .ensures)))) (cnfs .kept .0 ∙ dnfs .kept .0 ∙ nodes .kept .0 ∙ vars .kept .0) (c .before .before .zero-u8-from .ensures)
+    let vars = at-put-count .put-count in
+    let nodes = at-put-count2 .put-count2 in
+    let dnfs = at-put-list .put-list in
+    let cnfs = at-put-list2 .put-list2 in
+    prints _ _ _ _ _ (fits) (appends-then (countLine varsWord (g .args .n)) ((countLine nodesWord (g .args .count)) ++ ((listText dnfWord (g .args .n) (g .args .dnf-count) (g .args .dnf .now)) ++ (listText cnfWord (g .args .n) (g .args .cnf-count) (g .args .cnf .now)))) _ _ _ _ _ _ (vars .ensures) (appends-then (countLine nodesWord (g .args .count)) ((listText dnfWord (g .args .n) (g .args .dnf-count) (g .args .dnf .now)) ++ (listText cnfWord (g .args .n) (g .args .cnf-count) (g .args .cnf .now))) _ _ _ _ _ _ (nodes .ensures) (appends-then (listText dnfWord (g .args .n) (g .args .dnf-count) (g .args .dnf .now)) (listText cnfWord (g .args .n) (g .args .cnf-count) (g .args .cnf .now)) _ _ _ _ _ _ (dnfs .ensures) (cnfs .ensures)))) (cnfs .kept .0 ∙ dnfs .kept .0 ∙ nodes .kept .0 ∙ vars .kept .0) (at-zero-u8-from .zero-u8-from .ensures)
 
 pub put-whole-spec : {M : Type 1} → statement M
 put-whole-spec =

@@ -26,10 +26,16 @@ shared-slice-read-word : tie.Need-shared-slice-read-word Inv-loop μ-loop
 shared-slice-read-word c = omega arith
 
 cast-t9 : tie.Need-cast-t9 Inv-loop μ-loop
-cast-t9 c = record { fits = mark-narrow (c .before .before .loop .inv) (c .before .before .before .before .before .pre) (omega arith) }
+cast-t9 c =
+    let at-loop = c .before .before in
+    let start = at-loop .before .before .before in
+    record { fits = mark-narrow (at-loop .loop .inv) (start .pre) (omega arith) }
 
 with-bit-requires : tie.Need-with-bit-requires Inv-loop μ-loop
-with-bit-requires c κs = mark-of (c .before .before .loop .inv) (c .before .before .before .before .before .pre) (omega arith)
+with-bit-requires c κs =
+    let at-loop = c .before .before in
+    let start = at-loop .before .before .before in
+    mark-of (at-loop .loop .inv) (start .pre) (omega arith)
 
 add-i : tie.Need-add-i Inv-loop μ-loop
 add-i c = search needs

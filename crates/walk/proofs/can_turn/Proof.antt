@@ -18,7 +18,10 @@ high-link-of-requires : tie.Need-high-link-of-requires
 high-link-of-requires c κs = search needs
 
 returns-2 : tie.Need-returns-2
-returns-2 c = turn-low _ _ _ _ _ (c .before .before .before .before .before .low-link-of .ensures) (c .before .before .if1 .left) (c .before .high-link-of .ensures)
+returns-2 c =
+    let at-if1 = c .before .before in
+    let at-low-link-of = at-if1 .before .before .before in
+    turn-low _ _ _ _ _ (at-low-link-of .low-link-of .ensures) (at-if1 .if1 .left) (c .before .high-link-of .ensures)
 
 pub can-turn-spec : {M : Type 1} → statement M
 can-turn-spec = tie.close (tie.spec low-link-of-requires returns high-link-of-requires returns-2)

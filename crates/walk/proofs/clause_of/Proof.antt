@@ -34,19 +34,36 @@ array-copy-out-p : tie.Need-array-copy-out-p Inv-loop μ-loop
 array-copy-out-p c = omega (arith, c .loop-test .taken, state-short _ _ (c .before .before .before .before .before .pre))
 
 high-link-of-requires : tie.Need-high-link-of-requires Inv-loop μ-loop
-high-link-of-requires c κs = state-reads _ _ (c .before .before .before .before .before .before .pre) _ (omega (arith, c .before .loop-test .taken, c .before .before .loop .inv .0))
+high-link-of-requires c κs =
+    let at-loop = c .before .before in
+    let start = at-loop .before .before .before .before in
+    state-reads _ _ (start .pre) _ (omega (arith, c .before .loop-test .taken, at-loop .loop .inv .0))
 
 var-of-requires : tie.Need-var-of-requires Inv-loop μ-loop
-var-of-requires c κs = (omega (arith, state-reads _ _ (c .before .before .before .before .before .before .before .pre) (c .before .before .before .loop .i - 1) (omega (arith, c .before .before .loop-test .taken, c .before .before .before .loop .inv .0))), omega (arith, state-mark _ _ (c .before .before .before .before .before .before .before .pre) (c .before .before .before .loop .i - 1) (omega (arith, c .before .before .loop-test .taken, c .before .before .before .loop .inv .0))))
+var-of-requires c κs =
+    let at-loop-test = c .before .before in
+    let at-loop = at-loop-test .before in
+    let start = at-loop .before .before .before .before in
+    (omega (arith, state-reads _ _ (start .pre) (at-loop .loop .i - 1) (omega (arith, at-loop-test .loop-test .taken, at-loop .loop .inv .0))), omega (arith, state-mark _ _ (start .pre) (at-loop .loop .i - 1) (omega (arith, at-loop-test .loop-test .taken, at-loop .loop .inv .0))))
 
 mul-with-bit : tie.Need-mul-with-bit Inv-loop μ-loop
-mul-with-bit c = omega (arith, c .before .before .before .loop-test .taken, state-short _ _ (c .before .before .before .before .before .before .before .before .pre))
+mul-with-bit c =
+    let at-loop-test = c .before .before .before in
+    let start = at-loop-test .before .before .before .before .before in
+    omega (arith, at-loop-test .loop-test .taken, state-short _ _ (start .pre))
 
 element-copy-out-with-bit : tie.Need-element-copy-out-with-bit Inv-loop μ-loop
-element-copy-out-with-bit c = omega (arith, c .before .before .before .loop-test .taken, state-short _ _ (c .before .before .before .before .before .before .before .before .pre))
+element-copy-out-with-bit c =
+    let at-loop-test = c .before .before .before in
+    let start = at-loop-test .before .before .before .before .before in
+    omega (arith, at-loop-test .loop-test .taken, state-short _ _ (start .pre))
 
 with-bit-requires : tie.Need-with-bit-requires Inv-loop μ-loop
-with-bit-requires c κs = omega (arith, c .before .var-of .ensures, state-mark _ _ (c .before .before .before .before .before .before .before .before .before .pre) (c .before .before .before .before .before .loop .i - 1) (omega (arith, c .before .before .before .before .loop-test .taken, c .before .before .before .before .before .loop .inv .0)))
+with-bit-requires c κs =
+    let at-loop-test = c .before .before .before .before in
+    let at-loop = at-loop-test .before in
+    let start = at-loop .before .before .before .before in
+    omega (arith, c .before .var-of .ensures, state-mark _ _ (start .pre) (at-loop .loop .i - 1) (omega (arith, at-loop-test .loop-test .taken, at-loop .loop .inv .0)))
 
 add-i : tie.Need-add-i Inv-loop μ-loop
 add-i c = omega (arith, c .before .before .before .before .before .loop-test .taken)
@@ -55,7 +72,13 @@ loop-less : tie.Need-loop-less Inv-loop μ-loop
 loop-less c = omega (arith, c .before .before .before .before .before .loop-test .taken)
 
 loop-again : tie.Need-loop-again Inv-loop μ-loop
-loop-again c = celled-more _ _ (c .before .before .before .before .before .before .before .before .before .before .pre) _ _ _ _ _ (c .before .before .before .before .before .loop-test .taken) (c .before .before .before .before .before .before .loop .inv) (c .before .before .var-of .ensures) (c .before .before .before .high-link-of .ensures) (c .with-bit .ensures)
+loop-again c =
+    let at-var-of = c .before .before in
+    let at-high-link-of = at-var-of .before in
+    let at-loop-test = at-high-link-of .before .before in
+    let at-loop = at-loop-test .before in
+    let start = at-loop .before .before .before .before in
+    celled-more _ _ (start .pre) _ _ _ _ _ (at-loop-test .loop-test .taken) (at-loop .loop .inv) (at-var-of .var-of .ensures) (at-high-link-of .high-link-of .ensures) (c .with-bit .ensures)
 
 returns : tie.Need-returns Inv-loop μ-loop
 returns c = celled-all _ _ (c .before .before .before .before .before .pre) _ _ (c .loop-test .left) (c .before .loop .inv)

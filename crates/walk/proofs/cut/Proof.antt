@@ -41,10 +41,15 @@ loop-less : tie.Need-loop-less Inv-loop μ-loop
 loop-less c = omega (arith, c .before .loop-test .taken)
 
 loop-again : tie.Need-loop-again Inv-loop μ-loop
-loop-again c = (omega (arith, c .before .loop-test .taken), cut-step _ _ _ (omega (arith, c .before .loop-test .taken, c .before .before .before .before .pre .0)) (c .before .before .before .before .pre .1) (c .before .before .loop .inv .1))
+loop-again c =
+    let at-loop = c .before .before in
+    let start = at-loop .before .before in
+    (omega (arith, c .before .loop-test .taken), cut-step _ _ _ (omega (arith, c .before .loop-test .taken, start .pre .0)) (start .pre .1) (at-loop .loop .inv .1))
 
 returns : tie.Need-returns Inv-loop μ-loop
-returns c = cut-end _ _ _ _ (c .before .loop .inv .0) (c .loop-test .left) (c .before .before .before .pre .0) (c .before .before .before .pre .1) (c .before .loop .inv .1)
+returns c =
+    let start = c .before .before .before in
+    cut-end _ _ _ _ (c .before .loop .inv .0) (c .loop-test .left) (start .pre .0) (start .pre .1) (c .before .loop .inv .1)
 
 pub cut-spec : {M : Type 1} → statement M
 cut-spec =

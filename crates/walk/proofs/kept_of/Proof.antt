@@ -35,16 +35,29 @@ array-copy-out-can-turn : tie.Need-array-copy-out-can-turn Inv-loop μ-loop
 array-copy-out-can-turn c = omega (arith, c .before .loop .inv .0, state-short _ _ (c .before .before .before .before .before .pre .0))
 
 mul-can-turn-2 : tie.Need-mul-can-turn-2 Inv-loop μ-loop
-mul-can-turn-2 c = omega (arith, c .before .before .loop .inv .0, state-short _ _ (c .before .before .before .before .before .before .pre .0), c .before .before .before .before .before .before .pre .1)
+mul-can-turn-2 c =
+    let at-loop = c .before .before in
+    let start = at-loop .before .before .before .before in
+    omega (arith, at-loop .loop .inv .0, state-short _ _ (start .pre .0), start .pre .1)
 
 array-copy-out-can-turn-2 : tie.Need-array-copy-out-can-turn-2 Inv-loop μ-loop
-array-copy-out-can-turn-2 c = omega (arith, c .before .before .loop .inv .0, state-short _ _ (c .before .before .before .before .before .before .pre .0), c .before .before .before .before .before .before .pre .1)
+array-copy-out-can-turn-2 c =
+    let at-loop = c .before .before in
+    let start = at-loop .before .before .before .before in
+    omega (arith, at-loop .loop .inv .0, state-short _ _ (start .pre .0), start .pre .1)
 
 can-turn-requires : tie.Need-can-turn-requires Inv-loop μ-loop
-can-turn-requires c κs = state-reads _ _ (c .before .before .before .before .before .before .before .pre .0) _ (omega (arith, c .before .before .before .loop .inv .0, c .before .before .before .before .before .before .before .pre .1, c .before .before .loop-test .taken))
+can-turn-requires c κs =
+    let at-loop-test = c .before .before in
+    let at-loop = at-loop-test .before in
+    let start = at-loop .before .before .before .before in
+    state-reads _ _ (start .pre .0) _ (omega (arith, at-loop .loop .inv .0, start .pre .1, at-loop-test .loop-test .taken))
 
 returns : tie.Need-returns Inv-loop μ-loop
-returns c = kept-turn _ _ _ _ (c .before .before .before .before .loop-test .taken) (sym (c .before .can-turn .ensures) ∙ c .if1 .taken) (c .before .before .before .before .before .loop .inv .1)
+returns c =
+    let at-loop-test = c .before .before .before .before in
+    let at-loop = at-loop-test .before in
+    kept-turn _ _ _ _ (at-loop-test .loop-test .taken) (sym (c .before .can-turn .ensures) ∙ c .if1 .taken) (at-loop .loop .inv .1)
 
 sub-i-2 : tie.Need-sub-i-2 Inv-loop μ-loop
 sub-i-2 c = omega arith
@@ -53,7 +66,10 @@ loop-less : tie.Need-loop-less Inv-loop μ-loop
 loop-less c = omega arith
 
 loop-again : tie.Need-loop-again Inv-loop μ-loop
-loop-again c = (omega (arith, c .before .before .before .before .before .loop .inv .0), kept-pass _ _ _ _ (c .before .before .before .before .loop-test .taken) (sym (c .before .can-turn .ensures) ∙ c .if1 .left) (c .before .before .before .before .before .loop .inv .1))
+loop-again c =
+    let at-loop-test = c .before .before .before .before in
+    let at-loop = at-loop-test .before in
+    (omega (arith, at-loop .loop .inv .0), kept-pass _ _ _ _ (at-loop-test .loop-test .taken) (sym (c .before .can-turn .ensures) ∙ c .if1 .left) (at-loop .loop .inv .1))
 
 returns-2 : tie.Need-returns-2 Inv-loop μ-loop
 returns-2 c = kept-none _ _ _ _ (c .loop-test .left) (c .before .loop .inv .1)

@@ -18,10 +18,16 @@ kept-of-requires : tie.Need-kept-of-requires
 kept-of-requires c κs = search needs
 
 cut-requires : tie.Need-cut-requires
-cut-requires c κs = (omega (arith, c .kept-of .ensures, kept-bound (c .before .before .before .before .args .bdd .now) (c .before .before .before .before .args .s .path) (c .before .before .before .before .args .s .len - 1), state-short _ _ (c .before .before .before .before .pre)), state-long _ _ (c .before .before .before .before .pre))
+cut-requires c κs =
+    let start = c .before .before .before .before in
+    (omega (arith, c .kept-of .ensures, kept-bound (start .args .bdd .now) (start .args .s .path) (start .args .s .len - 1), state-short _ _ (start .pre)), state-long _ _ (start .pre))
 
 returns-2 : tie.Need-returns-2
-returns-2 c = next-ends _ _ (c .before .before .before .before .before .before .pre) (c .before .before .before .if1 .left) _ (c .before .before .kept-of .ensures) _ (c .before .cut .ensures) (c .if2 .taken)
+returns-2 c =
+    let at-kept-of = c .before .before in
+    let at-if1 = at-kept-of .before in
+    let start = at-if1 .before .before .before in
+    next-ends _ _ (start .pre) (at-if1 .if1 .left) _ (at-kept-of .kept-of .ensures) _ (c .before .cut .ensures) (c .if2 .taken)
 
 sub-at : tie.Need-sub-at
 sub-at c = search needs
@@ -33,17 +39,36 @@ mul-high-link-of : tie.Need-mul-high-link-of
 mul-high-link-of c = search needs
 
 array-copy-out-high-link-of : tie.Need-array-copy-out-high-link-of
-array-copy-out-high-link-of c = omega (arith, c .before .before .before .kept-of .ensures, kept-bound (c .before .before .before .before .before .before .before .args .bdd .now) (c .before .before .before .before .before .before .before .args .s .path) (c .before .before .before .before .before .before .before .args .s .len - 1), state-short _ _ (c .before .before .before .before .before .before .before .pre), c .before .if2 .left)
+array-copy-out-high-link-of c =
+    let at-kept-of = c .before .before .before in
+    let start = at-kept-of .before .before .before .before in
+    omega (arith, at-kept-of .kept-of .ensures, kept-bound (start .args .bdd .now) (start .args .s .path) (start .args .s .len - 1), state-short _ _ (start .pre), c .before .if2 .left)
 
 high-link-of-requires : tie.Need-high-link-of-requires
 high-link-of-requires c κs =
-    state-reads _ _ (c .before .before .before .before .before .before .before .before .pre) _ (omega (arith, c .before .before .before .before .kept-of .ensures, kept-bound (c .before .before .before .before .before .before .before .before .args .bdd .now) (c .before .before .before .before .before .before .before .before .args .s .path) (c .before .before .before .before .before .before .before .before .args .s .len - 1), c .before .before .before .before .before .if1 .left, c .before .before .if2 .left))
+    let at-if2 = c .before .before in
+    let at-kept-of = at-if2 .before .before in
+    let at-if1 = at-kept-of .before in
+    let start = at-if1 .before .before .before in
+    state-reads _ _ (start .pre) _ (omega (arith, at-kept-of .kept-of .ensures, kept-bound (start .args .bdd .now) (start .args .s .path) (start .args .s .len - 1), at-if1 .if1 .left, at-if2 .if2 .left))
 
 descend-requires : tie.Need-descend-requires
-descend-requires c κs = next-descends _ _ (c .before .before .before .before .before .before .before .before .before .pre) (c .before .before .before .before .before .before .if1 .left) _ (c .before .before .before .before .before .kept-of .ensures) _ (c .before .before .before .before .cut .ensures) (c .before .before .before .if2 .left) _ (c .high-link-of .ensures)
+descend-requires c κs =
+    let at-if2 = c .before .before .before in
+    let at-cut = at-if2 .before in
+    let at-kept-of = at-cut .before in
+    let at-if1 = at-kept-of .before in
+    let start = at-if1 .before .before .before in
+    next-descends _ _ (start .pre) (at-if1 .if1 .left) _ (at-kept-of .kept-of .ensures) _ (at-cut .cut .ensures) (at-if2 .if2 .left) _ (c .high-link-of .ensures)
 
 returns-3 : tie.Need-returns-3
-returns-3 c = next-goes _ _ (c .before .before .before .before .before .before .before .before .before .before .pre) (c .before .before .before .before .before .before .before .if1 .left) _ (c .before .before .before .before .before .before .kept-of .ensures) _ (c .before .before .before .before .before .cut .ensures) (c .before .before .before .before .if2 .left) _ (c .before .high-link-of .ensures) _ (c .descend .ensures)
+returns-3 c =
+    let at-if2 = c .before .before .before .before in
+    let at-cut = at-if2 .before in
+    let at-kept-of = at-cut .before in
+    let at-if1 = at-kept-of .before in
+    let start = at-if1 .before .before .before in
+    next-goes _ _ (start .pre) (at-if1 .if1 .left) _ (at-kept-of .kept-of .ensures) _ (at-cut .cut .ensures) (at-if2 .if2 .left) _ (c .before .high-link-of .ensures) _ (c .descend .ensures)
 
 pub next-path-spec : {M : Type 1} → statement M
 next-path-spec =

@@ -27,7 +27,10 @@ first-path-requires : tie.Need-first-path-requires
 first-path-requires c κs = start-sound _ _ _ _ (c .before .before .before .walk-check .ensures) _ (c .before .checked .given .1)
 
 returns-2 : tie.Need-returns-2
-returns-2 c = start-goes _ _ _ _ (c .before .before .before .before .before .walk-check .ensures) _ (c .before .before .before .checked .given .1) _ (c .before .first-path .ensures)
+returns-2 c =
+    let at-checked = c .before .before .before in
+    let at-walk-check = at-checked .before .before in
+    start-goes _ _ _ _ (at-walk-check .walk-check .ensures) _ (at-checked .checked .given .1) _ (c .before .first-path .ensures)
 
 pub start-of-spec : {M : Type 1} → statement M
 start-of-spec =

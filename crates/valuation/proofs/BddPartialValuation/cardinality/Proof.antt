@@ -20,7 +20,9 @@ cast-t5 c = record { fits = ones-fit _ (search needs) }
 
 returns-2 : tie.Need-returns-2
 unfolding countedReply countsFixed
-returns-2 c = judged-answers _ _ _ (c .before .before .before .check-one .ensures) (c .before .if1 .left) _ (counts _ (one-formed _ _ (c .before .before .before .check-one .ensures) (c .before .if1 .left) .small))
+returns-2 c =
+    let at-check-one = c .before .before .before in
+    judged-answers _ _ _ (at-check-one .check-one .ensures) (c .before .if1 .left) _ (counts _ (one-formed _ _ (at-check-one .check-one .ensures) (c .before .if1 .left) .small))
 
 pub cardinality-spec : {M : Type 1} → statement M
 cardinality-spec = tie.close (tie.spec check-one-requires returns cast-t5 returns-2)

@@ -23,7 +23,10 @@ truth-of-requires c κs = search needs
 
 returns-2 : tie.Need-returns-2
 unfolding truthReply asksEqual
-returns-2 c = judged-answers _ _ _ (c .before .before .before .before .check-two .ensures) (c .before .before .if1 .left) _ (c .truth-of .ensures ∙ ap (λ b. replied (saysTruth b)) (c .before .same-words .ensures))
+returns-2 c =
+    let at-if1 = c .before .before in
+    let at-check-two = at-if1 .before .before in
+    judged-answers _ _ _ (at-check-two .check-two .ensures) (at-if1 .if1 .left) _ (c .truth-of .ensures ∙ ap (λ b. replied (saysTruth b)) (c .before .same-words .ensures))
 
 pub eq-spec : {M : Type 1} → statement M
 eq-spec = tie.close (tie.spec check-two-requires returns same-words-requires truth-of-requires returns-2)

@@ -24,7 +24,10 @@ truth-of-requires c κs = search needs
 
 returns-2 : tie.Need-returns-2
 unfolding truthReply asksExtends
-returns-2 c = judged-answers _ _ _ (c .before .before .before .before .check-two .ensures) (c .before .before .if1 .left) _ (c .truth-of .ensures ∙ ap (λ b. replied (saysTruth b)) (c .before .agree .ensures))
+returns-2 c =
+    let at-if1 = c .before .before in
+    let at-check-two = at-if1 .before .before in
+    judged-answers _ _ _ (at-check-two .check-two .ensures) (at-if1 .if1 .left) _ (c .truth-of .ensures ∙ ap (λ b. replied (saysTruth b)) (c .before .agree .ensures))
 
 pub extends-spec : {M : Type 1} → statement M
 extends-spec = tie.close (tie.spec check-two-requires returns agree-requires truth-of-requires returns-2)

@@ -24,7 +24,10 @@ truth-of-requires c κs = search needs
 
 returns-2 : tie.Need-returns-2
 unfolding truthReply asksValue
-returns-2 c = judged-answers _ _ _ (c .before .before .before .before .check-mark .ensures) (c .before .before .if1 .left) _ (c .truth-of .ensures ∙ ap (λ b. replied (saysTruth b)) (c .before .has-bit .ensures))
+returns-2 c =
+    let at-if1 = c .before .before in
+    let at-check-mark = at-if1 .before .before in
+    judged-answers _ _ _ (at-check-mark .check-mark .ensures) (at-if1 .if1 .left) _ (c .truth-of .ensures ∙ ap (λ b. replied (saysTruth b)) (c .before .has-bit .ensures))
 
 pub has-value-spec : {M : Type 1} → statement M
 has-value-spec = tie.close (tie.spec check-mark-requires returns has-bit-requires truth-of-requires returns-2)
