@@ -1,7 +1,7 @@
 // One table walked into another, with a mark set or yes and no exchanged on the way. Inner.
 ghost use mathlib.Core.Path.{_≡_};
 ghost use mathlib.Core.Bool.{not};
-ghost use Prim.Native.Nat.{_+_, _*_, _<_, _≤_};
+ghost use Prim.Native.Nat.{_+_, _*_, _<_};
 ghost use lib.ListN.{length, getD, set};
 ghost use Rattle.theory.specs.Tree.{mapped, cofactor};
 ghost use Rattle.theory.specs.Table.{childOf, num, truth, meaning};

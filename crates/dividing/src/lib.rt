@@ -2,10 +2,9 @@
 // In this order every write lies above all that is still needed.
 ghost use mathlib.Core.Path.{_≡_};
 ghost use mathlib.Core.List.{[], _∷_};
-ghost use Prim.Native.Nat.{_+_, _*_, _<_, _≤_, _^_};
-ghost use lib.ListN.{length, take};
+ghost use Prim.Native.Nat.{_+_, _*_, _<_, _^_};
+ghost use lib.ListN.{take};
 ghost use Rattle.theory.specs.Clause.{marksOf};
-ghost use Rattle.frame.specs.Held.{Held};
 ghost use Rattle.dividing.specs.Dividing.{coreAt, restAt, tryAt, InFrame, Standing, CoreSteps, Cores, SupportAt, RestSteps, RestReady, Rests, MarkReady, MarkSteps, DivideReady, Divides};
 use frame::Made;
 use frame::Size;

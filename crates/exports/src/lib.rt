@@ -4,7 +4,6 @@ use replies::REPLY_WORDS;
 use valuation::BddPartialValuation;
 use valuation::BddVariable;
 ghost use mathlib.Core.Path.{_≡_};
-ghost use lib.ListN.{length};
 ghost use Rattle.table.specs.Inspection.{inspects};
 ghost use Rattle.table.specs.Case.{evaluates};
 ghost use mathlib.Core.Bool.{not};

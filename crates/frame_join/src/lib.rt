@@ -1,9 +1,9 @@
 // Two tables of one slice joined into a third above them: the join over parts of the slice, and the operations by it. Inner.
 ghost use mathlib.Core.Path.{_≡_};
-ghost use mathlib.Core.Bool.{true, false, not, _&&_};
+ghost use mathlib.Core.Bool.{true, false};
 ghost use Prim.Native.Nat.{_+_, _*_, _<_, _≤_};
 ghost use lib.ListN.{length, take};
-ghost use Rattle.theory.specs.Tree.{pointwise, cofactor, forAllMark, existsMark};
+ghost use Rattle.theory.specs.Tree.{pointwise, andNot, cofactor, forAllMark, existsMark};
 ghost use Rattle.refusal.specs.Limits.{maxNodes};
 ghost use Rattle.join.specs.Memo.{ways, Stores};
 ghost use Rattle.join.specs.Task.{opOf};
@@ -226,7 +226,7 @@ pub fn some_in(w: &mut [u32], q: Size, a: usize, k: u32, x: u16, d: usize) -> Ma
 pub fn and_not_in(w: &mut [u32], q: Size, a: usize, k: u32, b: usize, j: u32, d: usize) -> Made
     requires { ⌜ Lies q (length (now w)) d × Operand q (now w) a k d × Operand q (now w) b j d ⌝ }
     ensures { λ _. ⌜ take d (now (w .exit)) ≡ take d (now (w .entry)) ⌝ }
-    ensures { λ r. ⌜ Joins (pointwise (λ x y. x && not y)) q (now (w .entry)) (now (w .exit)) a k b j d r ⌝ }
+    ensures { λ r. ⌜ Joins (pointwise andNot) q (now (w .entry)) (now (w .exit)) a k b j d r ⌝ }
 {
     pair_in(w, q, 4, a, k, b, j, d)
 }

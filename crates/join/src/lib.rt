@@ -1,12 +1,11 @@
 // Two tables descended together into a third: the core of the operators. Inner.
 ghost use mathlib.Core.Path.{_≡_};
-ghost use mathlib.Core.Bool.{Bool};
 ghost use Prim.Native.Nat.{_+_, _*_, _-_, _<_, _≤_, _/_, min};
 ghost use lib.Dec.{ltb};
 ghost use lib.ListN.{length};
 ghost use Rattle.theory.specs.Table.{truth, num, canon};
-ghost use Rattle.theory.specs.Words.{stride, nodeAt};
-ghost use Rattle.refusal.specs.Limits.{maxMarks, maxNodes};
+ghost use Rattle.theory.specs.Words.{stride};
+ghost use Rattle.refusal.specs.Limits.{maxNodes};
 ghost use Rattle.making.specs.Made.{Leaves};
 ghost use Rattle.join.specs.Task.{opOf, stepIn};
 ghost use Rattle.join.specs.Memo.{ways, slotOf, Recalls, Stores};

@@ -1,6 +1,5 @@
 // Lines of numbers for the replay: read from bytes, handed to buffers, compared with what a call left. Inner.
 // Nothing is refused: past a line's end a number is 0, past a buffer's end nothing is written.
-ghost use mathlib.Core.Path.{_≡_};
 ghost use Prim.Native.Nat.{_<_, _≤_};
 ghost use lib.ListN.{length};
 

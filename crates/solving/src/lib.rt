@@ -1,12 +1,10 @@
 // The short list's recursion: a frame for each depth behind the memory of functions found harmless. Inner.
 // Once the list is longer than its output only a table over room can still be found; a function known to be harmless is then not solved again.
 ghost use mathlib.Core.Path.{_≡_};
-ghost use mathlib.Core.List.{List};
-ghost use Prim.Native.Nat.{_+_, _*_, _-_, _/_, _<_, _≤_};
-ghost use lib.ListN.{length, take, drop};
+ghost use Prim.Native.Nat.{_+_, _*_, _/_, _<_, _≤_};
+ghost use lib.ListN.{take};
 ghost use Rattle.refusal.specs.Limits.{maxMarks};
 ghost use Rattle.valuation.specs.Valuation.{clauseOf};
-ghost use Rattle.frame.specs.Held.{Held};
 ghost use Rattle.dividing.specs.Dividing.{place};
 ghost use Rattle.listing.specs.Listed.{capacity};
 ghost use Rattle.harmless.specs.Memory.{frameAt, memory};

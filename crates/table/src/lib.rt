@@ -1,9 +1,9 @@
 // Node tables: their words, inspection and evaluation.
 ghost use mathlib.Core.Path.{_≡_};
-ghost use mathlib.Core.Bool.{Bool, true, false};
-ghost use Prim.Native.Nat.{ℕ, _+_, _*_, _-_, _<_, _≤_};
-ghost use lib.ListN.{length, getD};
-ghost use Rattle.theory.specs.Table.{Node, node, same, linkOk, nodeOk};
+ghost use mathlib.Core.Bool.{true, false};
+ghost use Prim.Native.Nat.{_+_, _*_, _-_, _<_, _≤_};
+ghost use lib.ListN.{length};
+ghost use Rattle.theory.specs.Table.{node, same, linkOk, nodeOk};
 ghost use Rattle.theory.specs.Words.{stride, nodeAt, nodes, withNode};
 ghost use Rattle.refusal.specs.Limits.{maxMarks, maxNodes};
 ghost use Rattle.refusal.specs.Verdict.{replied, refusedWith};

@@ -5,7 +5,6 @@ ghost use lib.ListN.{length, take};
 ghost use Rattle.refusal.specs.Limits.{maxMarks};
 ghost use Rattle.valuation.specs.Valuation.{clauseOf};
 ghost use Rattle.rule.specs.Rule.{cleared};
-ghost use Rattle.cube.specs.Cube.{clauseAt};
 ghost use Rattle.listing.specs.Listed.{clauseStride};
 ghost use Rattle.trimming.specs.Trimming.{Clears, TrimReady, TrimsBy, Trims, ListReady, Shortens};
 use frame::Size;

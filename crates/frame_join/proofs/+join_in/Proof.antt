@@ -59,7 +59,10 @@ module _ (t : ℕ) where
   same-length c = search needs
 
   returns : join-in-lts.Need-returns (told t) (at t) join-in.Post
-  returns c = known-in _ _ _ _ _ _ _ (c .before .before .before .before .before .before .pre .1) _ (c .before .before .before .split-in .ensures) _ (c .before .enum-told .given .1) _ (c .known-of .ensures)
+  returns c =
+      let at-split-in = c .before .before .before in
+      let start = at-split-in .before .before .before in
+      known-in _ _ _ _ _ _ _ (start .pre .1) _ (at-split-in .split-in .ensures) _ (c .before .enum-told .given .1) _ (c .known-of .ensures)
 
   add-t19 : join-in-lts.Need-add-t19 (told t) (at t) join-in.Post
   add-t19 c = let k = c .before in record { fits = omega (arith, next-small _ _ _ _ _ _ _ (start-of k .pre .1) _ (cut-parted k)) }
@@ -77,7 +80,9 @@ module _ (t : ℕ) where
   same-length-2 c = search needs
 
   returns-2 : join-in-lts.Need-returns-2 (told t) (at t) join-in.Post
-  returns-2 c = let k = c .before .before .before .before .before .before .before in low-over _ _ _ _ _ _ _ (start-of k .pre .1) _ (cut-parted k) _ _ (c .before .before .before .before .join-in .kept .0) (c .before .before .before .before .join-in .ensures .0) (c .before .before .before .before .join-in .ensures .1) (c .enum-told2 .given .1)
+  returns-2 c =
+      let at-join-in = c .before .before .before .before in
+      let k = at-join-in .before .before .before in low-over _ _ _ _ _ _ _ (start-of k .pre .1) _ (cut-parted k) _ _ (at-join-in .join-in .kept .0) (at-join-in .join-in .ensures .0) (at-join-in .join-in .ensures .1) (c .enum-told2 .given .1)
 
   join-in-requires-2 : join-in-lts.Need-join-in-requires-2 (told t) (at t) join-in.Post
   join-in-requires-2 c κs = let l = c .before in let k = cut-of l in (omega (arith, start-of k .pre .0, fall _ _ _ _ _ _ _ (start-of k .pre .1) _ (cut-parted k)), high-asks _ _ _ _ _ _ _ (start-of k .pre .1) _ (cut-parted k) _ _ (l .before .before .before .before .before .join-in .kept .0) (l .before .before .before .before .before .join-in .ensures .0) (l .before .before .before .before .before .join-in .ensures .1) _ _ (l .before .low .given .1))
@@ -92,7 +97,9 @@ module _ (t : ℕ) where
   same-length-3 c = search needs
 
   returns-3 : join-in-lts.Need-returns-3 (told t) (at t) join-in.Post
-  returns-3 c = let l = c .before .before .before .before .before .before in let k = cut-of l in high-over _ _ _ _ _ _ _ (start-of k .pre .1) _ (cut-parted k) _ _ (l .before .before .before .before .before .join-in .kept .0) (l .before .before .before .before .before .join-in .ensures .0) (l .before .before .before .before .before .join-in .ensures .1) _ _ (l .before .low .given .1) _ _ (c .before .before .before .before .join-in2 .kept .0) (c .before .before .before .before .join-in2 .ensures .0) (c .before .before .before .before .join-in2 .ensures .1) (c .enum-told3 .given .1)
+  returns-3 c =
+      let at-join-in2 = c .before .before .before .before in
+      let l = at-join-in2 .before .before in let k = cut-of l in high-over _ _ _ _ _ _ _ (start-of k .pre .1) _ (cut-parted k) _ _ (l .before .before .before .before .before .join-in .kept .0) (l .before .before .before .before .before .join-in .ensures .0) (l .before .before .before .before .before .join-in .ensures .1) _ _ (l .before .low .given .1) _ _ (at-join-in2 .join-in2 .kept .0) (at-join-in2 .join-in2 .ensures .0) (at-join-in2 .join-in2 .ensures .1) (c .enum-told3 .given .1)
 
   settle-in-requires : join-in-lts.Need-settle-in-requires (told t) (at t) join-in.Post
   settle-in-requires c κs = let h = c .before in let l = low-of h in let k = cut-of l in settle-asks _ _ _ _ _ _ _ (start-of k .pre .1) _ (cut-parted k) _ _ (l .before .before .before .before .before .join-in .kept .0) (l .before .before .before .before .before .join-in .ensures .0) (l .before .before .before .before .before .join-in .ensures .1) _ _ (l .before .low .given .1) _ _ (h .before .before .before .before .before .join-in2 .kept .0) (h .before .before .before .before .before .join-in2 .ensures .0) (h .before .before .before .before .before .join-in2 .ensures .1) _ _ (h .before .high .given .1)
@@ -101,7 +108,9 @@ module _ (t : ℕ) where
   same-length-4 c = search needs
 
   returns-4 : join-in-lts.Need-returns-4 (told t) (at t) join-in.Post
-  returns-4 c = let h = c .before .before .before .before in let l = low-of h in let k = cut-of l in joined-in _ _ _ _ _ _ _ (start-of k .pre .1) _ (cut-parted k) _ _ (l .before .before .before .before .before .join-in .kept .0) (l .before .before .before .before .before .join-in .ensures .0) (l .before .before .before .before .before .join-in .ensures .1) _ _ (l .before .low .given .1) _ _ (h .before .before .before .before .before .join-in2 .kept .0) (h .before .before .before .before .before .join-in2 .ensures .0) (h .before .before .before .before .before .join-in2 .ensures .1) _ _ (h .before .high .given .1) _ (c .before .before .settle-in .result) (c .before .before .settle-in .ensures .0) (c .before .before .settle-in .ensures .1)
+  returns-4 c =
+      let at-settle-in = c .before .before in
+      let h = at-settle-in .before .before in let l = low-of h in let k = cut-of l in joined-in _ _ _ _ _ _ _ (start-of k .pre .1) _ (cut-parted k) _ _ (l .before .before .before .before .before .join-in .kept .0) (l .before .before .before .before .before .join-in .ensures .0) (l .before .before .before .before .before .join-in .ensures .1) _ _ (l .before .low .given .1) _ _ (h .before .before .before .before .before .join-in2 .kept .0) (h .before .before .before .before .before .join-in2 .ensures .0) (h .before .before .before .before .before .join-in2 .ensures .1) _ _ (h .before .high .given .1) _ (at-settle-in .settle-in .result) (at-settle-in .settle-in .ensures .0) (at-settle-in .settle-in .ensures .1)
 
 pub +join-in-spec : {M : Type 1} → statement M
 +join-in-spec = close μ (λ t. join-in-lts.spec (told t) (at t) join-in.Post (split-in-requires t) (enum-known-step t) (enum-told t) (known-of-requires t) (same-length t) (returns t) (add-t19 t) (join-in-requires t) (enum-known-low t) (enum-told-2 t) (same-length-2 t) (returns-2 t) (join-in-requires-2 t) (enum-known-high t) (enum-told-3 t) (same-length-3 t) (returns-3 t) (settle-in-requires t) (same-length-4 t) (returns-4 t))

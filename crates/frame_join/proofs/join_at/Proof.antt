@@ -16,7 +16,11 @@ sub-t14-2 : tie.Need-sub-t14-2
 sub-t14-2 c = search needs
 
 join-in-requires : tie.Need-join-in-requires
-join-in-requires c κs = start-asks _ _ _ (c .before .before .before .before .before .before .before .before .before .before .before .before .pre) _ _ (c .before .before .before .before .before .before .before .before .before .constants-in .kept .0) (c .before .before .before .before .before .clear-in .kept .0) (c .before .before .before .before .before .before .before .before .before .constants-in .ensures .0) (c .before .before .before .before .before .clear-in .ensures .0) (c .before .before .before .before .before .before .before .before .before .constants-in .ensures .1) (c .before .before .before .before .before .clear-in .ensures .1)
+join-in-requires c κs =
+    let at-clear-in = c .before .before .before .before .before in
+    let at-constants-in = at-clear-in .before .before .before .before in
+    let start = at-constants-in .before .before .before in
+    start-asks _ _ _ (start .pre) _ _ (at-constants-in .constants-in .kept .0) (at-clear-in .clear-in .kept .0) (at-constants-in .constants-in .ensures .0) (at-clear-in .clear-in .ensures .0) (at-constants-in .constants-in .ensures .1) (at-clear-in .clear-in .ensures .1)
 
 enum-known-joined : tie.Need-enum-known-joined
 enum-known-joined c = search needs
@@ -28,7 +32,12 @@ same-length : tie.Need-same-length
 same-length c = search needs
 
 returns : tie.Need-returns
-returns c = over-at _ _ _ (c .before .before .before .before .before .before .before .before .before .before .before .before .before .before .before .before .before .pre) _ _ (c .before .before .before .before .before .before .before .before .before .before .before .before .before .before .constants-in .kept .0) (c .before .before .before .before .before .before .before .before .before .before .clear-in .kept .0) (c .before .before .before .before .before .before .before .before .before .before .before .before .before .before .constants-in .ensures .0) (c .before .before .before .before .before .before .before .before .before .before .clear-in .ensures .0) (c .before .before .before .before .before .before .before .before .before .before .before .before .before .before .constants-in .ensures .1) (c .before .before .before .before .before .before .before .before .before .before .clear-in .ensures .1) _ _ (c .before .before .before .before .join-in .kept .0) (c .before .before .before .before .join-in .ensures .0) (c .before .before .before .before .join-in .ensures .1) (c .enum-told .given .1)
+returns c =
+    let at-join-in = c .before .before .before .before in
+    let at-clear-in = at-join-in .before .before .before .before .before .before in
+    let at-constants-in = at-clear-in .before .before .before .before in
+    let start = at-constants-in .before .before .before in
+    over-at _ _ _ (start .pre) _ _ (at-constants-in .constants-in .kept .0) (at-clear-in .clear-in .kept .0) (at-constants-in .constants-in .ensures .0) (at-clear-in .clear-in .ensures .0) (at-constants-in .constants-in .ensures .1) (at-clear-in .clear-in .ensures .1) _ _ (at-join-in .join-in .kept .0) (at-join-in .join-in .ensures .0) (at-join-in .join-in .ensures .1) (c .enum-told .given .1)
 
 count-to-requires : tie.Need-count-to-requires
 count-to-requires c κs = search needs
@@ -37,7 +46,13 @@ same-length-2 : tie.Need-same-length-2
 same-length-2 c = search needs
 
 returns-2 : tie.Need-returns-2
-returns-2 c = count-at _ _ _ (c .before .before .before .before .before .before .before .before .before .before .before .before .before .before .before .before .before .before .before .pre) _ _ (c .before .before .before .before .before .before .before .before .before .before .before .before .before .before .before .before .constants-in .kept .0) (c .before .before .before .before .before .before .before .before .before .before .before .before .clear-in .kept .0) (c .before .before .before .before .before .before .before .before .before .before .before .before .before .before .before .before .constants-in .ensures .0) (c .before .before .before .before .before .before .before .before .before .before .before .before .clear-in .ensures .0) (c .before .before .before .before .before .before .before .before .before .before .before .before .before .before .before .before .constants-in .ensures .1) (c .before .before .before .before .before .before .before .before .before .before .before .before .clear-in .ensures .1) _ _ (c .before .before .before .before .before .before .join-in .kept .0) (c .before .before .before .before .before .before .join-in .ensures .0) (c .before .before .before .before .before .before .join-in .ensures .1) _ _ (c .before .before .joined .given .1) _ (c .count-to .ensures)
+returns-2 c =
+    let at-joined = c .before .before in
+    let at-join-in = at-joined .before .before .before .before in
+    let at-clear-in = at-join-in .before .before .before .before .before .before in
+    let at-constants-in = at-clear-in .before .before .before .before in
+    let start = at-constants-in .before .before .before in
+    count-at _ _ _ (start .pre) _ _ (at-constants-in .constants-in .kept .0) (at-clear-in .clear-in .kept .0) (at-constants-in .constants-in .ensures .0) (at-clear-in .clear-in .ensures .0) (at-constants-in .constants-in .ensures .1) (at-clear-in .clear-in .ensures .1) _ _ (at-join-in .join-in .kept .0) (at-join-in .join-in .ensures .0) (at-join-in .join-in .ensures .1) _ _ (at-joined .joined .given .1) _ (c .count-to .ensures)
 
 pub join-at-spec : {M : Type 1} → statement M
 join-at-spec =

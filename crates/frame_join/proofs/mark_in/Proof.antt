@@ -19,7 +19,9 @@ same-length : tie.Need-same-length
 same-length c = search needs
 
 returns : tie.Need-returns
-returns c = let g = c .before .before .before .before .before .before in let a = g .args in let j = c .before .before .join-at in (j .ensures .0, mark-gives (a .q) (a .w .now) (a .d) (a .a) (a .k) (g .pre .0) (g .pre .1) (12 * a .k) (a .op) (a .x) (j .last .0) (j .kept .0) (j .result) (j .ensures .1))
+returns c =
+    let at-join-at = c .before .before in
+    let g = at-join-at .before .before .before .before in let a = g .args in let j = at-join-at .join-at in (j .ensures .0, mark-gives (a .q) (a .w .now) (a .d) (a .a) (a .k) (g .pre .0) (g .pre .1) (12 * a .k) (a .op) (a .x) (j .last .0) (j .kept .0) (j .result) (j .ensures .1))
 
 pub mark-in-spec : {M : Type 1} → statement M
 mark-in-spec = tie.close (tie.spec mul-t14 add-t15 join-at-requires same-length returns)

@@ -22,7 +22,9 @@ same-length : tie.Need-same-length
 same-length c = search needs
 
 returns : tie.Need-returns
-returns c = let g = c .before .before .before .before .before .before in let a = g .args in let j = c .before .before .join-at in (j .ensures .0, pair-gives (a .q) (a .w .now) (a .d) (a .a) (a .k) (a .b) (a .j) (g .pre .0) (g .pre .1) (g .pre .2) (6 * (a .k + a .j)) (a .op) (j .last .0) (j .kept .0) (j .result) (j .ensures .1))
+returns c =
+    let at-join-at = c .before .before in
+    let g = at-join-at .before .before .before .before in let a = g .args in let j = at-join-at .join-at in (j .ensures .0, pair-gives (a .q) (a .w .now) (a .d) (a .a) (a .k) (a .b) (a .j) (g .pre .0) (g .pre .1) (g .pre .2) (6 * (a .k + a .j)) (a .op) (j .last .0) (j .kept .0) (j .result) (j .ensures .1))
 
 pub pair-in-spec : {M : Type 1} → statement M
 pair-in-spec = tie.close (tie.spec add-t16 mul-t17 add-t18 join-at-requires same-length returns)

@@ -25,10 +25,11 @@ same-length c = search needs
 
 returns : tie.Need-returns
 returns c =
-    let g = c .before .before .before .before .before in
+    let at-remember = c .before .before in
+    let g = at-remember .before .before .before in
     let a = g .args in
-    lent-back (a .w .now) (c .before .before .remember .last .0) (a .start) (a .end) (g .pre .0) (g .pre .1) (c .before .before .remember .kept .0)
-    (λ z. Stores (part (a .start) (a .end) (a .w .now)) z (a .pair .left .0) (a .pair .right .0) (a .r .0)) (c .before .before .remember .ensures)
+    lent-back (a .w .now) (at-remember .remember .last .0) (a .start) (a .end) (g .pre .0) (g .pre .1) (at-remember .remember .kept .0)
+    (λ z. Stores (part (a .start) (a .end) (a .w .now)) z (a .pair .left .0) (a .pair .right .0) (a .r .0)) (at-remember .remember .ensures)
 
 pub remember-in-spec : {M : Type 1} → statement M
 remember-in-spec =

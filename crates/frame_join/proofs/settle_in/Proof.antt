@@ -16,16 +16,28 @@ same-length : tie.Need-same-length
 same-length c = search needs
 
 returns : tie.Need-returns
-returns c = full-in _ _ _ _ _ _ _ (c .before .before .before .before .before .before .before .pre) _ _ (c .before .before .before .before .node-in .kept .0) (c .before .before .before .before .node-in .ensures .0) (c .before .before .before .before .node-in .ensures .1) (c .enum-told .given .1)
+returns c =
+    let at-node-in = c .before .before .before .before in
+    let start = at-node-in .before .before .before in
+    full-in _ _ _ _ _ _ _ (start .pre) _ _ (at-node-in .node-in .kept .0) (at-node-in .node-in .ensures .0) (at-node-in .node-in .ensures .1) (c .enum-told .given .1)
 
 remember-in-requires : tie.Need-remember-in-requires
-remember-in-requires c κs = remember-in-asks _ _ _ _ _ _ _ (c .before .before .before .before .before .before .before .before .before .pre) _ _ (c .before .before .before .before .before .before .node-in .kept .0) (c .before .before .before .before .before .before .node-in .ensures .0) (c .before .before .before .before .before .before .node-in .ensures .1) _ _ (c .before .before .made .given .1)
+remember-in-requires c κs =
+    let at-made = c .before .before in
+    let at-node-in = at-made .before .before .before .before in
+    let start = at-node-in .before .before .before in
+    remember-in-asks _ _ _ _ _ _ _ (start .pre) _ _ (at-node-in .node-in .kept .0) (at-node-in .node-in .ensures .0) (at-node-in .node-in .ensures .1) _ _ (at-made .made .given .1)
 
 same-length-2 : tie.Need-same-length-2
 same-length-2 c = search needs
 
 returns-2 : tie.Need-returns-2
-returns-2 c = settled-in _ _ _ _ _ _ _ (c .before .before .before .before .before .before .before .before .before .before .before .before .pre) _ _ (c .before .before .before .before .before .before .before .before .before .node-in .kept .0) (c .before .before .before .before .before .before .before .before .before .node-in .ensures .0) (c .before .before .before .before .before .before .before .before .before .node-in .ensures .1) _ _ (c .before .before .before .before .before .made .given .1) _ (c .before .before .remember-in .ensures .0) (c .before .before .remember-in .ensures .1)
+returns-2 c =
+    let at-remember-in = c .before .before in
+    let at-made = at-remember-in .before .before .before in
+    let at-node-in = at-made .before .before .before .before in
+    let start = at-node-in .before .before .before in
+    settled-in _ _ _ _ _ _ _ (start .pre) _ _ (at-node-in .node-in .kept .0) (at-node-in .node-in .ensures .0) (at-node-in .node-in .ensures .1) _ _ (at-made .made .given .1) _ (at-remember-in .remember-in .ensures .0) (at-remember-in .remember-in .ensures .1)
 
 pub settle-in-spec : {M : Type 1} → statement M
 settle-in-spec =

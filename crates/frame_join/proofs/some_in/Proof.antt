@@ -12,7 +12,10 @@ same-length : tie.Need-same-length
 same-length c = search needs
 
 returns : tie.Need-returns
-returns c = let a = c .before .before .before .before .before .args in let m = c .before .before .mark-in in (m .ensures .0, marked-by (a .q) (a .w .now) (m .last .0) (a .a) (a .k) (a .d) 14 (a .x) _||_ or-table (m .result) (m .ensures .1))
+returns c =
+    let at-mark-in = c .before .before in
+    let start = at-mark-in .before .before .before in
+    let a = start .args in let m = at-mark-in .mark-in in (m .ensures .0, marked-by (a .q) (a .w .now) (m .last .0) (a .a) (a .k) (a .d) 14 (a .x) _||_ or-table (m .result) (m .ensures .1))
 
 pub some-in-spec : {M : Type 1} → statement M
 some-in-spec = tie.close (tie.spec mark-in-requires same-length returns)
