@@ -16,10 +16,6 @@ unfolding run
 run-deep b k t [] d = d
 run-deep b k t (x ∷ xs) d = run-deep b k (setCube b (x .fixed) (x .values) t) xs (set-deep b (x .fixed) (x .values) k t d)
 
-pub built-deep : (b : Bool) (n : ℕ) (xs : List Clause) → Deep n (built b n xs)
-unfolding built
-built-deep b n xs = run-deep b n (konst n (not b)) xs (konst-deep n (not b))
-
 -- one clause more
 pub run-snoc : (b : Bool) (t : Tree) (xs : List Clause) (x : Clause) → run b t (xs ++ (x ∷ [])) ≡ setCube b (x .fixed) (x .values) (run b t xs)
 unfolding run

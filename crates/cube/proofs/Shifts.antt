@@ -1,12 +1,12 @@
 -- Masks, level by level.
 use mathlib.Core.Path.{_≡_, refl, sym, ap, subst, _∙_}
-use mathlib.Core.Bool.{true, false}
+use mathlib.Core.Bool.{false}
 use Prim.Native.Nat.{ℕ, zero, suc, _+_, _*_, _/_, _%_, _^_, _-_, _<_, _≤_}
 use native.Mathlib.Omega.{arith}
 use native.Mathlib.Nat.{zero-div, div-one, div-div-eq-div-mul}
 use lib.Count.{trailingZeros, under}
 use lib.Pow.{pow-add, shr-lt}
-use borrow.Author.Tests.{eq-eqb, ne-eqb}
+use borrow.Author.Tests.{ne-eqb}
 use Rattle.theory.specs.Mask.{odd}
 
 pub half-pow : (f l : ℕ) → f / 2 ^ l / 2 ≡ f / 2 ^ suc l
@@ -20,9 +20,6 @@ shr-add f l j = div-div-eq-div-mul f (2 ^ l) (2 ^ j) ∙ ap (λ d. f / d) (sym (
 
 pub even : (x : ℕ) → x % 2 ≡ 0 → odd x ≡ false
 even x e = ne-eqb (x % 2) 1 (λ d. omega arith)
-
-pub odd-is : (x : ℕ) → x % 2 ≡ 1 → odd x ≡ true
-odd-is x e = eq-eqb (x % 2) 1 e
 
 -- below the lowest digit that is set, all are zero
 pub tz-even : (w x i : ℕ) → i < trailingZeros w x → x / 2 ^ i % 2 ≡ 0

@@ -115,19 +115,6 @@ tab-made n w d e k g deep h i l is = record {
   words = sym (take-take (stride * k) (e - d) (drop d w) l) ∙ sym (words-nodes k (part d e w) (omega (arith, part-long d e w i))) ∙ ap wordsOf is;
 }
 
--- a canonical table at the front of the words is held at 0
-pub tab-front : (n : ℕ) (w : List ℕ) (k : ℕ) (g : Tree) → Deep n g → stride * k ≤ length w → nodes k w ≡ canon n g → Tab n w 0 k g
-tab-front n w k g deep l is = record {
-  deep = deep;
-  lies = omega arith;
-  count = sym (length-nodes k w) ∙ ap length is;
-  words = sym (words-nodes k w l) ∙ ap wordsOf is;
-}
-
--- two held tables of the same words are of the same function
-pub tabs-alike : (n : ℕ) (w : List ℕ) (a b k : ℕ) (f g : Tree) → Tab n w a k f → Tab n w b k g → part a (a + stride * k) w ≡ part b (b + stride * k) w → f ≡ g
-tabs-alike n w a b k f g tf tg e = sym (tab-means n w a k f tf) ∙ ap (λ v. meaning n (nodes k v)) e ∙ tab-means n w b k g tg
-
 pub sized-of : (q : Size) (len d : ℕ) → Lies q len d → Sized q len
 sized-of q len d l = record { mem = l .mem; few = l .few; marks = l .marks }
 

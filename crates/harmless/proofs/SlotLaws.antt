@@ -10,10 +10,8 @@ use native.Mathlib.Decide.{ℕ-discrete, decLt}
 use lib.ListN.{length, take, drop, getD, set, length-set, length-drop}
 use lib.Seq.{getD-take, getD-drop, getD-set-same, getD-set-other, ext-getD, length-take-le}
 use Rattle.theory.specs.Tree.{Tree}
-use Rattle.theory.specs.Table.{canon}
 use Rattle.theory.specs.Words.{stride}
-use Rattle.theory.proofs.Words.{words-injective}
-use Rattle.theory.proofs.Canon.{canon-injective, canon-ordered}
+use Rattle.theory.proofs.Canon.{canon-ordered}
 use Rattle.frame.specs.declared.Size.{Size}
 use Rattle.frame.specs.Held.{Tab, Alike}
 use Rattle.frame.proofs.LeafLaws.{Copied, alike-at}
@@ -48,9 +46,6 @@ same-view v w o a n ho ha h =
 -- the table elsewhere, word by word
 tab-moved : (n : ℕ) (w v : List ℕ) (a o k : ℕ) (f : Tree) → Tab n w a k f → o + stride * k ≤ length v → ((j : ℕ) → j < stride * k → getD v (o + j) 0 ≡ getD w (a + j) 0) → Tab n v o k f
 tab-moved n w v a o k f t h s = record { deep = t .deep; lies = h; count = t .count; words = same-view v w o a (stride * k) h (t .lies) s ∙ t .words }
-
-one-tree : (n : ℕ) (w : List ℕ) (o k : ℕ) (f g : Tree) → Tab n w o k f → Tab n w o k g → f ≡ g
-one-tree n w o k f g t u = canon-injective n f g (t .deep) (u .deep) (words-injective (canon n f) (canon n g) (sym (t .count) ∙ u .count) (sym (t .words) ∙ u .words))
 
 memory-at : (q : Size) (w : List ℕ) (j : ℕ) → j < frameAt q 0 → getD (memory q w) j 0 ≡ getD w j 0
 memory-at q w j h = getD-take (frameAt q 0) w j 0 h
@@ -100,9 +95,6 @@ module _ (q : Size) (w : List ℕ) (a k : ℕ) (pre : Keeping w q a k) (at : ℕ
     pub kept-behind : drop (frameAt q 0) w₁ ≡ drop (frameAt q 0) w
     kept-behind = ext-getD 0 (drop (frameAt q 0) w₁) (drop (frameAt q 0) w) (length-drop (frameAt q 0) w₁ ∙ ap (λ (n : ℕ). n - frameAt q 0) long ∙ sym (length-drop (frameAt q 0) w))
         (λ j l. getD-drop (frameAt q 0) w₁ j 0 ∙ elsewhere (frameAt q 0 + j) (inr (omega (arith, inside))) ∙ sym (getD-drop (frameAt q 0) w j 0))
-
-    memory₁-long : length (memory q w₁) ≡ frameAt q 0
-    memory₁-long = length-take-le (frameAt q 0) w₁ (omega (arith, all-in, long))
 
     count-is : getD w₁ at 0 ≡ k
     count-is = c .other at (inl (omega arith)) ∙ getD-set-same w at k 0 (omega (arith, inside, all-in))

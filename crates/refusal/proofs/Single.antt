@@ -22,10 +22,6 @@ Single {A} reply v = (a b : A) → reply a ≡ replied v → reply b ≡ replied
 pub single : {A : Type 0} (reply : A → Reply) → OneToOne reply → (v : Verdict) → Single reply v
 single reply one v a b p q = one a b (p ∙ sym q)
 
--- a lent buffer about whose contents there is an equation has one
-pub single-buffer : (after : List ℕ) (a b : List ℕ) → a ≡ after → b ≡ after → a ≡ b
-single-buffer after a b p q = p ∙ sym q
-
 -- equal replies of two refusals
 pub refusal-single : (r s : Refusal) → refusalReply r ≡ refusalReply s → r ≡ s
 refusal-single r s e = λ i. record { number = e i .number; place = e i .place }

@@ -1,4 +1,4 @@
-pub mod Truths
+pub mod Holding
 pub mod Setting
 pub mod Needs
 pub mod Parts

@@ -15,7 +15,7 @@ use Rattle.theory.proofs.Support.{free-of, of-free, same-equal, same-refl}
 use Rattle.theory.proofs.Truths.{clash, bool-cases}
 use Rattle.cube.specs.Cube.{allHold, dnf}
 use Rattle.rule.specs.Rule.{coreOf, hasCore, restOf, markOf, solved}
-use Rattle.rule.proofs.Truths.{bit-other, set-holds, empty-holds, dnf-append}
+use Rattle.rule.proofs.Holding.{bit-other, set-holds, empty-holds, dnf-append}
 use Rattle.rule.proofs.Setting.{look-own, free-own, free-set}
 use Rattle.rule.proofs.Needs.{need, need-le}
 use Rattle.rule.proofs.Parts.{Step, step, core-none, core-less, side-less}

@@ -15,7 +15,7 @@ use Rattle.theory.proofs.Reach.{for-all-look}
 use Rattle.theory.proofs.Support.{same-equal, same-refl}
 use Rattle.theory.proofs.Truths.{clash, and-true}
 use Rattle.rule.specs.Rule.{supportMarks, moreCases, larger, mostCases, coreOf, hasCore, remainder, dropped, dropMarks, restOf, fewerNodes, smaller, fewestNodes, chosen, markOf}
-use Rattle.rule.proofs.Truths.{either}
+use Rattle.rule.proofs.Holding.{either}
 use Rattle.rule.proofs.Setting.{set-own, free-pointwise, free-konst, free-own, free-set, folded-deep, folded-own, folded-free}
 use Rattle.rule.proofs.Needs.{All, Dep, support-all, support-some, need, need-lt}
 

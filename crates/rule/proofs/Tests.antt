@@ -13,7 +13,7 @@ use Rattle.theory.proofs.Support.{same-equal, same-refl}
 use Rattle.theory.proofs.Truths.{clash, bool-cases, bool-iff, and-true, and-intro, or-left, or-right, or-cases}
 use Rattle.cube.specs.Cube.{dnf}
 use Rattle.rule.specs.Rule.{supportMarks, dropped, inside, spare, cleared, trimmedBy, trimmed, solved, shortList}
-use Rattle.rule.proofs.Truths.{cleared-more, cleared-less, dnf-more, dnf-less}
+use Rattle.rule.proofs.Holding.{cleared-more, cleared-less, dnf-more, dnf-less}
 use Rattle.rule.proofs.Setting.{set-own, folded-deep}
 use Rattle.rule.proofs.Parts.{Core, Rest}
 use Rattle.rule.proofs.Means.{solved-list}

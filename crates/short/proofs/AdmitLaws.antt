@@ -20,8 +20,8 @@ use Rattle.table.specs.Inspection.{inspectionReply, overLimit, tooShort, roots,
 use Rattle.table.proofs.AdmissionLaws.{admission-clean, sound-table}
 use Rattle.making.specs.Room.{overRoom}
 use Rattle.making.proofs.RoomLaws.{roomy}
-use Rattle.short.specs.Short.{shortDeep, shortFindings, Shortening}
 use Rattle.admission.proofs.Admitted.{clean-answers}
+use Rattle.short.specs.Short.{shortDeep, shortFindings, Shortening}
 
 pub deep-is : (widest n : ℕ) (work : List ℕ) → ltb (length work) (24 * widest * (n + 2) + 192) ≡ shortDeep widest n work
 unfolding shortDeep

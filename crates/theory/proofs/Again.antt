@@ -4,18 +4,14 @@ use mathlib.Core.Logic.{_↔_}
 use mathlib.Core.Bool.{Bool, true, false, cond}
 use Prim.Native.Nat.{ℕ, zero, suc, _+_, _-_, _≤_, _<_}
 use native.Mathlib.Omega.{arith}
-use native.Mathlib.Nat.{add-zero, zero-add, suc-add}
 use lib.Dec.{eqb}
 use lib.ListN.{length, length-append}
 use borrow.Author.Tests.{eq-eqb, ne-eqb}
-use Rattle.theory.specs.Tree.{Tree, leaf, fork, Deep, pointwise, cofactor, konst}
-use Rattle.theory.specs.Table.{Table, at, step, treeOf, truth, num, walk, constants, canon, cut, Good}
-use Rattle.theory.proofs.Step.{step-skip}
+use Rattle.theory.specs.Tree.{Tree, leaf, fork, Deep, cofactor, konst}
+use Rattle.theory.specs.Table.{Table, step, treeOf, truth, num, walk, constants, canon, cut, Good}
 use Rattle.theory.proofs.Find.{mk-same}
 use Rattle.theory.proofs.Walk.{Walked, sound, found}
-use Rattle.theory.proofs.Cases.{pointwise-deep}
 use Rattle.theory.proofs.Canon.{Canonical, canonical}
-use Rattle.theory.proofs.Small.{treeOf-deep}
 
 -- a second walk over the same tree finds all of it
 pub walk-again : (n k : ℕ) (t : Tree) → Deep k t → (l : ℕ) → l + k ≡ n → (s : Table) → Good n s → walk ((walk s l t) .0) l t ≡ walk s l t
@@ -33,36 +29,6 @@ pub walk-konst : (k : ℕ) (b : Bool) (s : Table) (l : ℕ) → walk s l (konst 
 unfolding walk konst
 walk-konst zero b s l = refl
 walk-konst (suc k) b s l = rw (walk-konst k b s (suc l), walk-konst k b s (suc l)) (mk-same s l (num b))
-
--- the pair of nodes, descended together
-module _ (f : Bool → Bool → Bool) (A B : Table) where
-  pub both : ℕ → ℕ → ℕ → ℕ → Tree
-  both k l p q = pointwise f (treeOf k A l p) (treeOf k B l q)
-
-  pub both-deep : (k l p q : ℕ) → Deep k (both k l p q)
-  unfolding both
-  both-deep k l p q = pointwise-deep f k _ _ (treeOf-deep k A l p) (treeOf-deep k B l q)
-
-  pub both-fork : (k l p q : ℕ) → both (suc k) l p q ≡ fork (both k (suc l) (step A l false p) (step B l false q)) (both k (suc l) (step A l true p) (step B l true q))
-  unfolding both pointwise treeOf
-  both-fork k l p q = refl
-
-  -- neither node is of level l: go on at the next
-  pub both-skip : (n k l p q : ℕ) → suc l + k ≡ n → l < (at A p) .mark → l < (at B q) .mark → (s : Table) → Good n s
-      → walk s l (both (suc k) l p q) ≡ walk s (suc l) (both k (suc l) p q)
-  both-skip n k l p q e ha hb s g =
-      rw (both-fork k l p q, step-skip A l false p (λ d. omega arith), step-skip A l true p (λ d. omega arith), step-skip B l false q (λ d. omega arith), step-skip B l true q (λ d. omega arith))
-      (walk-skip n k (both k (suc l) p q) (both-deep k (suc l) p q) l e s g)
-
-  -- so many levels at once
-  pub both-jump : (n j k l p q : ℕ) → l + (j + k) ≡ n → l + j ≤ (at A p) .mark → l + j ≤ (at B q) .mark → (s : Table) → Good n s
-      → walk s l (both (j + k) l p q) ≡ walk s (l + j) (both k (l + j) p q)
-  both-jump n zero k l p q e ha hb s g = rw (zero-add k, add-zero l)
-  both-jump n (suc j) k l p q e ha hb s g =
-      let x : suc l + j ≡ l + suc j = omega arith in
-      rw (suc-add j k)
-      (both-skip n (j + k) l p q (omega arith) (omega arith) (omega arith) s g
-      ∙ (rw x at (both-jump n j k (suc l) p q (omega arith) (omega arith) (omega arith) s g)))
 
 -- a walk only grows the table, so that a table over its room stays over it
 pub walk-grows : (n k : ℕ) (t : Tree) → Deep k t → (l : ℕ) → l + k ≡ n → (s : Table) → Good n s → length s ≤ length ((walk s l t) .0)

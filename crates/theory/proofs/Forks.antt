@@ -1,5 +1,5 @@
 -- A walk over a fork in its three steps: the low side, the high side, the node over both.
-use mathlib.Core.Path.{_≡_, refl, sym, ap, subst, _∙_}
+use mathlib.Core.Path.{_≡_, sym, ap, subst, _∙_}
 use Prim.Native.Nat.{ℕ, suc, _+_, _-_, _<_}
 use native.Mathlib.Omega.{arith}
 use lib.ListN.{length}
@@ -14,11 +14,11 @@ module _ (n : ℕ) (s : Table) (good : Good n s) (v : ℕ) (below : v < n) (lo h
   whole : suc v + (n - suc v) ≡ n
   whole = omega arith
 
-  -- where a side has no room, the fork has none
   module _ (s₁ : Table) (p : ℕ) (is₁ : walk s (suc v) lo ≡ (s₁, p)) where
     pub low-walked : Walked n s (n - suc v) (suc v) lo (s₁, p)
     low-walked = subst (Walked n s (n - suc v) (suc v) lo) is₁ (sound n (n - suc v) lo lo-deep (suc v) whole s good)
 
+    -- where a side has no room, the fork has none
     pub high-over : (room : ℕ) → room < length ((walk s₁ (suc v) hi) .0) → room < length ((walk s v (fork lo hi)) .0)
     high-over room h = rw (walk-fork s v lo hi s₁ p is₁) (omega (arith, mk-grows ((walk s₁ (suc v) hi) .0) v p ((walk s₁ (suc v) hi) .1)))
 

@@ -10,7 +10,7 @@ use Rattle.theory.specs.Clause.{Clause, clause, emptyClause}
 use Rattle.theory.specs.Words.{stride}
 use Rattle.rule.specs.Rule.{supportMarks, solved, cleared, spare, trimmedBy, trimmed, shortList, called, allFit, shortFits}
 use Rattle.rule.proofs.Needs.{need-le}
-use Rattle.rule.proofs.Truths.{either}
+use Rattle.rule.proofs.Holding.{either}
 use Rattle.frame.specs.declared.Size.{Size}
 use Rattle.frame.specs.Held.{Tab}
 use Rattle.listing.specs.Listed.{clauseWords, capacity}

@@ -15,11 +15,11 @@ use Rattle.theory.specs.Mask.{odd}
 use Rattle.theory.specs.Clause.{emptyClause, setCell, gather}
 use Rattle.refusal.specs.Limits.{maxMarks}
 use Rattle.refusal.proofs.Firsts.{first-le, first-is, first-none, first-before}
+use Rattle.refusal.specs.Number.{VARIABLE}
+use Rattle.refusal.specs.Verdict.{Reply, replied, refusedWith, answered, judged}
 use Rattle.valuation.specs.Valuation.{clauseOf, firstBadMark, ofList, saysClause, gathersValues}
 use Rattle.valuation.specs.Replies.{updatedReply}
 use Rattle.valuation.specs.declared.Updated.the-variants.{Valuation, Refused}
-use Rattle.refusal.specs.Number.{VARIABLE}
-use Rattle.refusal.specs.Verdict.{Reply, replied, refusedWith, answered, judged}
 use Rattle.valuation.proofs.Checks.{list-bad, list-good}
 use Rattle.valuation.specs.declared.BddPartialValuation.{BddPartialValuation}
 

@@ -12,7 +12,7 @@ use Rattle.theory.specs.Words.{nodes}
 use Rattle.theory.specs.Clause.{Clause, emptyClause}
 use Rattle.theory.proofs.Words.{length-nodes}
 use Rattle.refusal.specs.Verdict.{refused}
-use Rattle.table.specs.Inspection.{rootOf, SoundTable}
+use Rattle.table.specs.Inspection.{SoundTable}
 use Rattle.paths.specs.Paths.{pathList}
 use Rattle.reduced.specs.Reduced.{admitsWalk}
 use Rattle.walk.specs.Path.{kept, turned, pathNext, firstPath, inArray, stateOf, Held}
@@ -91,13 +91,6 @@ module _ (n count : ℕ) (w : List ℕ) where
     ap (λ v. startBy v (firstPath w (count - 1))) e,
     ap (λ v. heldWords ((startBy v (firstPath w (count - 1))) .number) w) e ∙ rw (ne-eqb number 0 (refused-number n count w number place e)),
   )
-
-  pub start-admitted : SoundTable n count w (count - 1) → Reduced n (nodes count w)
-      → (startOf n count w ≡ record { number = 0; place = 0; len = length (firstPath w (count - 1)); path = inArray (firstPath w (count - 1)) }) × (wordsOf n count w ≡ w)
-  unfolding startOf startBy heldWords
-  start-admitted t r =
-      let e : admitsWalk n count w ≡ rootOf count = reduced-admits n count w t r in
-      (ap (λ v. startBy v (firstPath w (count - 1))) e, ap (λ v. heldWords ((startBy v (firstPath w (count - 1))) .number) w) e)
 
   -- the clauses of a walk that is not refused are the table's path list, and of one that is there are none
   pub reduced-clauses : SoundTable n count w (count - 1) → Reduced n (nodes count w) → walkClauses n count w ≡ pathList true n (nodes count w)

@@ -4,6 +4,7 @@ use native.Mathlib.Omega.{arith}
 use mathlib.Core.Path.{_∙_}
 use lib.ListN.{length}
 use Rattle.theory.specs.Clause.{marksOf}
+use Rattle.frame.proofs.false_in.Reads as false-in-reads
 use Rattle.dividing.proofs.FitLaws.{next-mark, next-less}
 use Rattle.dividing.proofs.CoreLaws.{CoreInv, core-start, ask-step, core-again, core-over, core-end}
 use Rattle.dividing.proofs.core_of.Statement.{statement}
@@ -11,7 +12,6 @@ use Rattle.dividing.proofs.core_of.Tie as tie
 use Rattle.dividing.proofs.core_of.Reads as reads
 use Rattle.dividing.proofs.core_of.Lts as lts
 use Rattle.dividing.proofs.core_step.Reads as core-step-reads
-use Rattle.frame.proofs.false_in.Reads as false-in-reads
 use Rattle.valuation.proofs.set_bit.Reads as set-bit-reads
 
 abbrev Inv-loop : tie.InvT-loop

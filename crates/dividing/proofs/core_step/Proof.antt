@@ -1,11 +1,11 @@
 -- `core_step`: the for-all is too large, has more cases, or has not.
 use borrow.Author.Needs.{needs}
+use Rattle.frame.proofs.copy_in.Reads as copy-in-reads
 use Rattle.dividing.proofs.CoreLaws.{ask-all, step-over, ask-cases, ask-copy, step-more, step-less}
 use Rattle.dividing.proofs.core_step.Statement.{statement}
 use Rattle.dividing.proofs.core_step.Tie as tie
 use Rattle.dividing.proofs.core_step.Reads as reads
 use Rattle.dividing.proofs.core_step.Lts as lts
-use Rattle.frame.proofs.copy_in.Reads as copy-in-reads
 use Rattle.frame_join.proofs.all_in.Reads as all-in-reads
 use Rattle.frame_counts.proofs.cases_in.Reads as cases-in-reads
 

@@ -4,6 +4,7 @@ use native.Mathlib.Omega.{arith}
 use mathlib.Core.Path.{_∙_}
 use lib.ListN.{length}
 use Rattle.theory.specs.Clause.{marksOf}
+use Rattle.frame.proofs.copy_in.Reads as copy-in-reads
 use Rattle.dividing.proofs.FitLaws.{next-mark, next-less}
 use Rattle.dividing.proofs.RestLaws.{RestInv, ask-copy-in, none-left, ask-and-not, left-over, ask-support, rest-start, ask-step, rest-end, rest-again, rest-over}
 use Rattle.dividing.proofs.rest_of.Statement.{statement}
@@ -11,7 +12,6 @@ use Rattle.dividing.proofs.rest_of.Tie as tie
 use Rattle.dividing.proofs.rest_of.Reads as reads
 use Rattle.dividing.proofs.rest_of.Lts as lts
 use Rattle.dividing.proofs.rest_step.Reads as rest-step-reads
-use Rattle.frame.proofs.copy_in.Reads as copy-in-reads
 use Rattle.frame_join.proofs.and_not_in.Reads as and-not-in-reads
 use Rattle.frame_counts.proofs.support_in.Reads as support-in-reads
 use Rattle.valuation.proofs.set_bit.Reads as set-bit-reads

@@ -1,11 +1,11 @@
 -- `rest_step`: what is left without the mark is too large, is taken, or is not.
 use borrow.Author.Needs.{needs}
+use Rattle.frame.proofs.copy_in.Reads as copy-in-reads
 use Rattle.dividing.proofs.RestLaws.{ask-some, step-over, ask-implies, ask-copy, step-take, step-leave}
 use Rattle.dividing.proofs.rest_step.Statement.{statement}
 use Rattle.dividing.proofs.rest_step.Tie as tie
 use Rattle.dividing.proofs.rest_step.Reads as reads
 use Rattle.dividing.proofs.rest_step.Lts as lts
-use Rattle.frame.proofs.copy_in.Reads as copy-in-reads
 use Rattle.frame_implies.proofs.implies_in.Reads as implies-in-reads
 use Rattle.frame_join.proofs.some_in.Reads as some-in-reads
 

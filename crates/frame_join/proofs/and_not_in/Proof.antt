@@ -1,9 +1,9 @@
+use Rattle.theory.specs.Tree.{andNot}
 use Rattle.join.proofs.TruthLaws.{and-not-table}
 use Rattle.frame_join.proofs.WholeLaws.{joined-by}
 use borrow.Author.Needs.{needs}
 use Rattle.frame_join.proofs.and_not_in.Statement.{statement}
 use Rattle.frame_join.proofs.and_not_in.Tie as tie
-use Rattle.theory.specs.Tree.{andNot}
 
 pair-in-requires : tie.Need-pair-in-requires
 pair-in-requires c κs = search needs

@@ -1,12 +1,12 @@
 -- `recall`: another count, or the words compared.
 use mathlib.Core.Path.{refl}
 use native.Mathlib.Omega.{arith}
+use Rattle.theory.proofs.Truths.{clash}
 use Rattle.harmless.proofs.SlotLaws.{inside, all-in, ask-same, hit}
 use Rattle.harmless.proofs.recall.Statement.{statement}
 use Rattle.harmless.proofs.recall.Tie as tie
 use Rattle.harmless.proofs.recall.Reads as reads
 use Rattle.harmless.proofs.recall.Lts as lts
-use Rattle.theory.proofs.Truths.{clash}
 
 slot-of-requires : tie.Need-slot-of-requires
 slot-of-requires c κs =

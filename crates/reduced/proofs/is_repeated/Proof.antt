@@ -1,5 +1,6 @@
 use mathlib.Core.Bool.{true, false}
 use native.Mathlib.Omega.{arith}
+use Rattle.theory.proofs.Words.{child-falls}
 use Rattle.reduced.proofs.ReducedLaws.{mark-fits, found-repeats, nowhere-repeats}
 use borrow.Author.Needs.{needs}
 use Rattle.reduced.proofs.is_repeated.Statement.{statement}
@@ -10,7 +11,6 @@ use Rattle.pool.proofs.find_node.Reads as find-node-reads
 use Rattle.table.proofs.high_link_of.Reads as high-link-of-reads
 use Rattle.table.proofs.low_link_of.Reads as low-link-of-reads
 use Rattle.table.proofs.var_of.Reads as var-of-reads
-use Rattle.theory.proofs.Words.{child-falls}
 
 var-of-requires : tie.Need-var-of-requires
 var-of-requires c κs = (omega (arith, c .before .pre .0 .long), mark-fits _ _ _ _ (c .before .pre .0) _ (c .before .pre .1) (c .before .pre .2))

@@ -4,6 +4,7 @@ use Prim.Native.Nat.{ℕ, _<_, suc}
 use native.Mathlib.Omega.{arith}
 use lib.ListN.{length, length-replicate}
 use borrow.Author.Needs.{needs}
+use Rattle.theory.proofs.Words.{child-falls}
 use Rattle.refusal.specs.Limits.{maxNodes}
 use Rattle.reduced.proofs.ReducedLaws.{Marking, marking-first, marking-again, marking-done}
 use Rattle.reduced.proofs.mark_reachable.Statement.{statement}
@@ -11,7 +12,6 @@ use Rattle.reduced.proofs.mark_reachable.Tie as tie
 use Rattle.reduced.proofs.mark_reachable.Reads as reads
 use Rattle.reduced.proofs.mark_reachable.Lts as lts
 use Rattle.reduced.proofs.mark_links.Reads as mark-links-reads
-use Rattle.theory.proofs.Words.{child-falls}
 
 abbrev Inv-loop : tie.InvT-loop
 Inv-loop n count bdd marks₀ p₀ at marks p = (Marking n count bdd (suc p) marks) × (p < count)

@@ -1,7 +1,7 @@
 use mathlib.Core.Path.{sym, ap, _∙_}
 use Rattle.refusal.specs.Buffers.{padded}
-use Rattle.replies.specs.Replies.{replyWords}
 use Rattle.listing.specs.Listed.{listedReply}
+use Rattle.replies.specs.Replies.{replyWords}
 use borrow.Author.Needs.{needs}
 use Rattle.replies.proofs.listed_written.Statement.{statement}
 use Rattle.replies.proofs.listed_written.Tie as tie

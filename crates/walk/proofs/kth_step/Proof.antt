@@ -47,8 +47,8 @@ use denote.Triple.Table.{entered, cited}
 use denote.Triple.Walked.{says, Stays, stay-none, stay-none-slice, walkOf, goes-none, goes-none-slice, Walks, ends-at, walked, walk-meets}
 use denote.Exit.{yes}
 use denote.Triple.Clauses.{ensured, lasts}
-use Rattle.walk.specs.Walk as spec
 use Rattle.refusal.specs.Verdict.{replied}
+use Rattle.walk.specs.Walk as spec
 use Rattle.walk.specs.Walk.{FromStart, pathStepReply, startOf, wordsOf, stepOf, pathOf, pathIn, startIn, pathAfter, moved, tells, walkClauses}
 use Rattle.walk.specs.declared.BddPathIterator.{BddPathIterator}
 use Rattle.walk.specs.declared.PathStep.{PathStep}

@@ -2,9 +2,9 @@
 use borrow.Author.Needs.{needs}
 use Rattle.refusal.specs.Truth.{truthReply}
 use Rattle.refusal.proofs.Judged.{judged-stops, judged-answers}
+use Rattle.refusal.specs.Verdict.{replied}
 use Rattle.valuation.proofs.Checks.{two-formed}
 use mathlib.Core.Path.{ap, _∙_}
-use Rattle.refusal.specs.Verdict.{replied}
 use Rattle.valuation.specs.Valuation.{saysTruth, asksExtends}
 use Rattle.valuation.proofs.BddPartialValuation.extends.Statement.{statement}
 use Rattle.valuation.proofs.BddPartialValuation.extends.Tie as tie

@@ -1,7 +1,7 @@
 -- `get_value`: the check, then the cell.
 use borrow.Author.Needs.{needs}
-use Rattle.valuation.specs.Replies.{lookupReply}
 use Rattle.refusal.proofs.Judged.{judged-stops, judged-answers}
+use Rattle.valuation.specs.Replies.{lookupReply}
 use Rattle.valuation.proofs.Checks.{mark-below}
 use Rattle.valuation.proofs.Answers.{found}
 use Rattle.valuation.specs.Valuation.{getsValue}

@@ -2,9 +2,9 @@
 use borrow.Author.Needs.{needs}
 use Rattle.refusal.specs.Truth.{truthReply}
 use Rattle.refusal.proofs.Judged.{judged-stops, judged-answers}
+use Rattle.refusal.specs.Verdict.{replied}
 use Rattle.valuation.proofs.Checks.{mark-fits}
 use mathlib.Core.Path.{ap, _∙_}
-use Rattle.refusal.specs.Verdict.{replied}
 use Rattle.valuation.specs.Valuation.{saysTruth, asksValue}
 use Rattle.valuation.proofs.BddPartialValuation.has_value.Statement.{statement}
 use Rattle.valuation.proofs.BddPartialValuation.has_value.Tie as tie

@@ -1,7 +1,7 @@
 -- `last_fixed_variable`: the check, then the greatest mark.
 use borrow.Author.Needs.{needs}
-use Rattle.valuation.specs.Replies.{lastFixedReply}
 use Rattle.refusal.proofs.Judged.{judged-stops, judged-answers}
+use Rattle.valuation.specs.Replies.{lastFixedReply}
 use Rattle.valuation.proofs.Checks.{one-formed}
 use Rattle.valuation.specs.Valuation.{findsLast}
 use Rattle.valuation.proofs.BddPartialValuation.last_fixed_variable.Statement.{statement}

@@ -45,8 +45,8 @@ use denote.Triple.Spec.{Meets, tripleOf}
 use denote.Triple.Table.{entered, cited}
 use denote.Triple.Walked.{says, needs, Stays, stay-ref, walkOf, goes-ref, Walks, ends-at, walked, walk-meets}
 use denote.Triple.Clauses.{ensured, lasts}
-use Rattle.walk.specs.Walk as spec
 use Rattle.refusal.specs.Verdict.{replied}
+use Rattle.walk.specs.Walk as spec
 use Rattle.walk.specs.Path.{Held}
 use Rattle.walk.specs.Walk.{FromStart, pathStepReply, nextPath, stepOf, pathIn}
 use Rattle.walk.proofs.Sounds.{from-start}

@@ -36,12 +36,12 @@ use denote.Triple.Spec.{Meets, tripleOf}
 use denote.Triple.Table.{entered}
 use denote.Triple.Walked.{says, Stays, stay-none-ref, walkOf, goes-none-ref, Walks, ends-at, walked, walk-meets}
 use denote.Exit.{yes}
+use Rattle.refusal.proofs.Refusal as R
+use Rattle.refusal.proofs.Refusal.Laws as R′
 use Rattle.walk.specs.declared.BddPathIterator.{BddPathIterator}
 use Rattle.walk.specs.Walk.{refusalIn}
 use Rattle.walk.proofs.BddPathIterator as T
 use Rattle.walk.proofs.BddPathIterator.Laws as T′
-use Rattle.refusal.proofs.Refusal as R
-use Rattle.refusal.proofs.Refusal.Laws as R′
 use Rattle.walk.proofs.BddPathIterator.refusal.Key.{name as #walk·BddPathIterator·refusal}
 use Rattle.walk.proofs.BddPathIterator.refusal as refusal
 use Rattle.walk.proofs.BddPathIterator.refusal.Statement as stated
