@@ -1,4 +1,6 @@
 // The tests of entries that take work, in the order of their numbers. Inner.
+#![tactic(auto)]
+
 ghost use Rattle.std.specs.Prelude.{◌≡◌, max};
 ghost use Rattle.refusal.specs.Verdict.{replied, judged};
 ghost use Rattle.table.specs.Inspection.{inspection_reply, root_of};

@@ -1,5 +1,7 @@
 // A list of clauses built in one pool: set one after another in list order, the pool brought to its root's own table when it has grown. Inner.
 // In work: the pool of 2 * room nodes from 0 on, the memo from 6 * room on, the pool's chains from 8 * room on.
+#![tactic(auto)]
+
 ghost use Rattle.std.specs.Prelude.{◌≡◌, ◌+◌, ◌*◌, ◌≤◌, length};
 ghost use Rattle.refusal.specs.Limits.{max_marks};
 ghost use Rattle.cube.specs.Cube.{entry_at};
@@ -12,7 +14,7 @@ use table::BddPointer;
 use valuation::BddPartialValuation;
 
 // Where a node of the pool is carried: the marks, the memo's number for it, the pool's and the output's node rooms.
-#[derive(Drop)]
+#[derive(Clone, Copy)]
 pub struct Goal {
     pub n: u16,
     pub stamp: u32,
@@ -87,7 +89,7 @@ pub fn compact(work: &mut [u32], out: &mut [u32], goal: Goal, count: u32, p: Bdd
 }
 
 // The run's node and the pool's count; or the run's own table has no room.
-#[derive(Drop)]
+#[derive(Clone, Copy)]
 pub enum Grown {
     At(BddPointer, u32),
     Over,

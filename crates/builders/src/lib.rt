@@ -1,4 +1,6 @@
 // The builders: the smallest table of a list, its clauses joined one after another in list order.
+#![tactic(auto)]
+
 ghost use Rattle.std.specs.Prelude.{◌≡◌, [], ◌≤◌};
 ghost use Rattle.theory.specs.Table.{truth};
 ghost use Rattle.theory.specs.Clause.{malformed};

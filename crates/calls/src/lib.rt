@@ -1,9 +1,11 @@
 // Calls of the public entries from a line's numbers and slices, one function for each family. Inner.
 // An entry takes what it needs: the numbers in the order of its arguments, the counts and the slices.
+#![tactic(auto)]
+
 use lines::{to_u16, to_u32, to_usize};
 
 // What a call is made of beside slices.
-#[derive(Drop)]
+#[derive(Clone, Copy)]
 pub struct Call {
     pub entry: u64,
     pub first: u64,

@@ -1,4 +1,6 @@
 // One table walked into another, with a mark set or yes and no exchanged on the way. Inner.
+#![tactic(auto)]
+
 ghost use Rattle.std.specs.Prelude.{◌≡◌, not, ◌+◌, ◌*◌, ◌<◌, length, get_or, set};
 ghost use Rattle.theory.specs.Tree.{mapped, cofactor};
 ghost use Rattle.theory.specs.Table.{child_of, num, truth, meaning};
@@ -15,7 +17,7 @@ use valuation::BddVariable;
 
 // How a table is carried: over n marks into room nodes, with the variable set to the value (n for none), yes and no exchanged or not.
 // Copied in each call: so ordered, what a call reads at once lies where a store's start or middle lay.
-#[derive(Drop)]
+#[derive(Clone, Copy)]
 pub struct Way {
     pub exchange: bool,
     pub n: u16,
@@ -25,14 +27,14 @@ pub struct Way {
 }
 
 // Where a node is split.
-#[derive(Drop)]
+#[derive(Clone, Copy)]
 pub struct Cut {
     pub variable: BddVariable,
     pub low: BddPointer,
     pub high: BddPointer,
 }
 
-#[derive(Drop)]
+#[derive(Clone, Copy)]
 pub enum Step {
     Done(BddPointer),
     Split(Cut),

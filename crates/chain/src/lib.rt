@@ -1,5 +1,7 @@
 // Hash chains over the nodes of a pool: equal nodes are found by their slot. Inner.
 // In work: the pool of cap nodes from 0 on, a memo that is not touched here from 3 * cap on, the chains' heads from 4 * cap on, the next nodes from 5 * cap on.
+#![tactic(auto)]
+
 ghost use Rattle.std.specs.Prelude.{◌≡◌, ◌≢◌, ◌*◌, ◌<◌, ◌≤◌, length};
 ghost use Rattle.pool.specs.Pool.{Searched, Noding};
 ghost use Rattle.chain.specs.Chain.{slot_of, slot_at, hung, Chained, Zeroed, Notes, Indexed};

@@ -1,4 +1,6 @@
 // The cover check: whether a list of clauses and a table say the same of every case.
+#![tactic(auto)]
+
 ghost use Rattle.std.specs.Prelude.{◌≡◌, ◌+◌, ◌*◌, ◌-◌, ◌<◌, length};
 ghost use Rattle.theory.specs.Table.{tree_of, meaning};
 ghost use Rattle.theory.specs.Words.{stride, nodes};
@@ -16,7 +18,7 @@ use table::{BddPointer, Inspection};
 use valuation::BddVariable;
 
 // The answer: list and table agree, or the first case that they tell apart.
-#[derive(Drop)]
+#[derive(Clone, Copy)]
 pub enum Covered {
     Agrees,
     Differs(u64),

@@ -2,7 +2,7 @@
 use mathlib.Core.Path.{◌≡◌, refl, sym, ap, ap₂, ◌∙◌}
 use mathlib.Core.Bool.{Bool, true, false, cond, not, ◌&&◌, ◌||◌, beq}
 use mathlib.Core.List.{List, [], ◌∷◌, ◌++◌}
-use Prim.Native.Nat.{ℕ, zero, suc, ◌+◌, ◌/◌, ◌-◌}
+use Prim.Native.Nat.{ℕ, zero, suc, ◌/◌}
 use Rattle.theory.specs.Tree.{Tree, Deep, look, konst, tabulate}
 use Rattle.theory.specs.Mask.{odd, bit}
 use Rattle.theory.specs.Clause.{Clause, clause}

@@ -3,7 +3,7 @@ use Prim.Native.Nat.{ℕ, ◌+◌, ◌-◌, ◌≤◌}
 use native.Mathlib.Omega.{arith}
 use lib.ListN.{length}
 use Rattle.theory.specs.Tree.{Tree, Deep}
-use Rattle.theory.specs.Table.{Table, at, tree_of, walk, constants, Ordered, Good}
+use Rattle.theory.specs.Table.{Table, tree_of, walk, constants, Ordered, Good}
 use Rattle.theory.proofs.Step.{Stands}
 use Rattle.theory.proofs.Walk.{Walked, sound}
 use Rattle.theory.proofs.Canon.{constants-good}

@@ -1,4 +1,4 @@
--- Demand 1. Any words may reach any entry. Bad input gets its refusal in the order of checking; an inspection refusal changes no buffer, a room refusal
+-- Any words may reach any entry. Bad input gets its refusal in the order of checking; an inspection refusal changes no buffer, a room refusal
 -- leaves output and work memory zero. Each promise leaves one possible answer.
 use mathlib.Core.Path.{◌≡◌, refl}
 use mathlib.Core.Logic.{◌↔◌}

@@ -1,4 +1,4 @@
--- Demand 2. What a table says of a case.
+-- What a table says of a case.
 use mathlib.Core.Path.{◌≡◌, sym, ap, ◌∙◌}
 use mathlib.Core.List.{List, [], ◌∷◌}
 use Prim.Native.Nat.{ℕ, ◌-◌, ◌^◌, ◌<◌}

@@ -1,4 +1,4 @@
--- Demand 3. A canonical table is smallest, reduced, and the one table of its meaning.
+-- A canonical table is smallest, reduced, and the one table of its meaning.
 use mathlib.Core.Path.{◌≡◌, ap}
 use mathlib.Core.Logic.{◌↔◌}
 use Prim.Native.Nat.{ℕ, ◌≤◌, ◌<◌, ◌^◌}

@@ -1,1 +1,2 @@
-// What a user may rely on: each demand as theorems about the definitions that the contracts cite. No code.
+// What a user may rely on: each promise as theorems about the definitions that the contracts cite. No code.
+#![tactic(auto)]

@@ -1,5 +1,7 @@
 // One step of the short list's rule, in a frame of four tables in one slice: the function, its core, what is left beside it, and one to try. Inner.
 // In this order every write lies above all that is still needed.
+#![tactic(auto)]
+
 ghost use Rattle.std.specs.Prelude.{◌≡◌, [], ◌∷◌, ◌+◌, ◌*◌, ◌<◌, ◌^◌, take};
 ghost use Rattle.theory.specs.Clause.{marks_of};
 ghost use Rattle.dividing.specs.Dividing.{core_at, rest_at, try_at, InFrame, Standing, CoreSteps, Cores, SupportAt, RestSteps, RestReady, Rests, MarkReady, MarkSteps, DivideReady, Divides};
@@ -9,28 +11,28 @@ use table::NODE_WORDS;
 use valuation::BddVariable;
 
 // The core so far, by its nodes and its cases.
-#[derive(Drop)]
+#[derive(Clone, Copy)]
 pub enum Cored {
     Best(u32, u64),
     TooLarge,
 }
 
 // The mark so far, and its node total.
-#[derive(Drop)]
+#[derive(Clone, Copy)]
 pub enum Marked {
     Least(BddVariable, u32),
     TooLarge,
 }
 
 // The node counts of the core and of what is left beside it, and the mark.
-#[derive(Drop)]
+#[derive(Clone, Copy)]
 pub struct Parts {
     pub core: u32,
     pub rest: u32,
     pub mark: BddVariable,
 }
 
-#[derive(Drop)]
+#[derive(Clone, Copy)]
 pub enum Divided {
     Into(Parts),
     TooLarge,

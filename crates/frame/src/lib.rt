@@ -1,5 +1,7 @@
 // Tables in one slice, by their offsets: the layout, nodes made in a part of it, copies, the false table. Inner.
 // Whatever writes at an offset leaves everything below it as it was.
+#![tactic(auto)]
+
 ghost use Rattle.std.specs.Prelude.{◌≡◌, false, ◌⊎◌, ◌+◌, ◌*◌, ◌≤◌, length, take};
 ghost use Rattle.theory.specs.Tree.{konst};
 ghost use Rattle.theory.specs.Table.{mk, constants};
@@ -13,7 +15,7 @@ use table::{BddPointer, NODE_WORDS};
 use valuation::BddVariable;
 
 // The slice: tables over n marks of at most room nodes, in places of wide nodes each; from mem on the memory of a running operation.
-#[derive(Drop)]
+#[derive(Clone, Copy)]
 pub struct Size {
     pub n: u16,
     pub room: u32,
@@ -22,7 +24,7 @@ pub struct Size {
 }
 
 // A made table's node count, or more nodes than room.
-#[derive(Drop)]
+#[derive(Clone, Copy)]
 pub enum Made {
     Count(u32),
     Over,

@@ -1,4 +1,6 @@
 // Does one table of a slice imply another? Only the memory is written. Inner.
+#![tactic(auto)]
+
 ghost use Rattle.std.specs.Prelude.{◌≡◌, not, length, take};
 ghost use Rattle.theory.specs.Tree.{cofactor};
 ghost use Rattle.join.specs.Joining.{joined_by};

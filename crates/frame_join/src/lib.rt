@@ -1,4 +1,6 @@
 // Two tables of one slice joined into a third above them: the join over parts of the slice, and the operations by it. Inner.
+#![tactic(auto)]
+
 ghost use Rattle.std.specs.Prelude.{◌≡◌, true, false, ◌+◌, ◌*◌, ◌<◌, ◌≤◌, length, take};
 ghost use Rattle.theory.specs.Tree.{pointwise, and_not, cofactor, for_all_mark, exists_mark};
 ghost use Rattle.refusal.specs.Limits.{max_nodes};
@@ -15,7 +17,7 @@ use table::{BddPointer, NODE_WORDS};
 use valuation::BddVariable;
 
 // Where a join stands: both operands, the result, which may fill the words up to the memory, and the memory with its end.
-#[derive(Drop)]
+#[derive(Clone, Copy)]
 pub struct Place {
     pub left: usize,
     pub right: usize,

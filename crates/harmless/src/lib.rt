@@ -1,4 +1,6 @@
 // The memory of functions found harmless: one slot for each remainder of a sum over a table's words; the last one kept in a slot stays. Inner.
+#![tactic(auto)]
+
 ghost use Rattle.std.specs.Prelude.{◌≡◌, drop};
 ghost use Rattle.harmless.specs.Memory.{frame_at, memory, Proven, Recalls, Remembers, Keeping, Slot};
 

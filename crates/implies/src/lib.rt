@@ -1,5 +1,7 @@
 // Two tables descended together without making a node: does an operation of them say no of every case? Inner.
 // With and-not it asks whether the left table implies the right one.
+#![tactic(auto)]
+
 ghost use Rattle.implies.specs.Implying.{Implying, Implies, Asking, SaysNo};
 ghost use Rattle.join.specs.Joining.{joined_by};
 

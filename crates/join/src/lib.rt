@@ -1,4 +1,6 @@
 // Two tables descended together into a third: the core of the operators. Inner.
+#![tactic(auto)]
+
 ghost use Rattle.std.specs.Prelude.{◌≡◌, ◌+◌, ◌*◌, ◌-◌, ◌<◌, ◌≤◌, ◌/◌, min, ltb, length};
 ghost use Rattle.theory.specs.Table.{truth, num, canon};
 ghost use Rattle.theory.specs.Words.{stride};
@@ -14,7 +16,7 @@ use table::BddPointer;
 use valuation::BddVariable;
 
 // An operand: its node count, and the mark that is set to a value on the way down; mark n sets none.
-#[derive(Drop)]
+#[derive(Clone, Copy)]
 pub struct Side {
     pub count: u32,
     pub variable: BddVariable,
@@ -22,7 +24,7 @@ pub struct Side {
 }
 
 // What is joined: the operation is a truth table, whose bit 2x + y answers x and y.
-#[derive(Drop)]
+#[derive(Clone, Copy)]
 pub struct Job {
     pub n: u16,
     pub op: u32,
@@ -32,14 +34,14 @@ pub struct Job {
 }
 
 // A node of each operand.
-#[derive(Drop)]
+#[derive(Clone, Copy)]
 pub struct Pair {
     pub left: BddPointer,
     pub right: BddPointer,
 }
 
 // Where a pair is split: the level, the pair, and the pairs on both sides.
-#[derive(Drop)]
+#[derive(Clone, Copy)]
 pub struct Cut {
     pub level: BddVariable,
     pub pair: Pair,
@@ -47,7 +49,7 @@ pub struct Cut {
     pub high: Pair,
 }
 
-#[derive(Drop)]
+#[derive(Clone, Copy)]
 pub enum Step {
     Known(BddPointer),
     Fork(Cut),

@@ -1,5 +1,7 @@
 // Lines of numbers for the replay: read from bytes, handed to buffers, compared with what a call left. Inner.
 // Nothing is refused: past a line's end a number is 0, past a buffer's end nothing is written.
+#![tactic(auto)]
+
 ghost use Rattle.std.specs.Prelude.{◌<◌, ◌≤◌, length};
 
 const LINE_END: u8 = 10;

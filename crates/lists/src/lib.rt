@@ -1,4 +1,6 @@
 // The extractors: a table's path list, as a DNF or as a CNF.
+#![tactic(auto)]
+
 ghost use Rattle.std.specs.Prelude.{◌≡◌};
 ghost use Rattle.refusal.specs.Verdict.{replied};
 ghost use Rattle.refusal.specs.Buffers.{output_after, work_after};

@@ -1,4 +1,6 @@
 // What the entries that make a table share: their answer, their room and work, the constants, and the settling of their buffers. Inner.
+#![tactic(auto)]
+
 ghost use Rattle.std.specs.Prelude.{◌≡◌, ◌+◌, ◌*◌, ◌≤◌, length};
 ghost use Rattle.theory.specs.Table.{constants};
 ghost use Rattle.theory.specs.Words.{stride, nodes};
@@ -11,14 +13,14 @@ use table::{BddPointer, NODE_WORDS};
 use valuation::BddVariable;
 
 // The answer: the result's node count.
-#[derive(Drop)]
+#[derive(Clone, Copy)]
 pub enum Made {
     Table(usize),
     Refused(Refusal),
 }
 
 // What a core leaves: a table of that many nodes in the output, or the place of NODES.
-#[derive(Drop)]
+#[derive(Clone, Copy)]
 pub enum Tabled {
     Count(usize),
     Over(u64),

@@ -1,4 +1,6 @@
 // The program as a function: a sheet's bytes in, the whole text out. Inner.
+#![tactic(auto)]
+
 ghost use Rattle.std.specs.Prelude.{◌≡◌, true, false, ◌*◌, ◌≤◌, length};
 ghost use Rattle.refusal.specs.Limits.{max_marks, max_clauses};
 ghost use Rattle.refusal.specs.Buffers.{output_after};

@@ -1,4 +1,6 @@
 // The operators on tables that descend two together: and, or, and-not, for-all, exists.
+#![tactic(auto)]
+
 ghost use Rattle.std.specs.Prelude.{◌≡◌, [], ◌≤◌};
 ghost use Rattle.refusal.specs.Limits.{max_nodes};
 ghost use Rattle.refusal.specs.Buffers.{output_after, work_after};

@@ -1,5 +1,5 @@
 -- What finding and making a node ask and ensure.
-use Rattle.std.specs.Prelude.{◌≡◌, List, [], ◌∷◌, ◌++◌, ℕ, suc, ◌+◌, ◌*◌, ◌<◌, ◌≤◌, length}
+use Rattle.std.specs.Prelude.{◌≡◌, List, [], ◌∷◌, ◌++◌, ℕ, suc, ◌*◌, ◌<◌, ◌≤◌, length}
 use Rattle.theory.specs.Table.{node, Table, Good}
 use Rattle.theory.specs.Words.{stride, node_at, nodes}
 use Rattle.theory.proofs.Step.{Stands}

@@ -1,4 +1,6 @@
 // Nodes in lent words: finding one, and making one. Inner.
+#![tactic(auto)]
+
 ghost use Rattle.std.specs.Prelude.{◌≡◌, ◌+◌, ◌*◌, ◌<◌, ◌≤◌, max, length};
 ghost use Rattle.theory.specs.Table.{node, same, mk};
 ghost use Rattle.theory.specs.Words.{stride, node_at, nodes};
@@ -8,14 +10,14 @@ ghost use Rattle.pool.specs.Pool.{Searched, Noding, Answers, Pushing, pushed};
 use table::BddPointer;
 use valuation::BddVariable;
 
-#[derive(Drop)]
+#[derive(Clone, Copy)]
 pub enum Found {
     At(BddPointer),
     Nowhere,
 }
 
 // A node's number and the table's count with it, or no room for it.
-#[derive(Drop)]
+#[derive(Clone, Copy)]
 pub enum Noted {
     Node(BddPointer, u32),
     Full,

@@ -1,4 +1,6 @@
 // Posting choice: which of two clause lists is posted.
+#![tactic(auto)]
+
 ghost use Rattle.std.specs.Prelude.{◌≡◌, cond};
 ghost use Rattle.posting.specs.Posting.{measure, whole_clauses, posts_dnf, posting};
 

@@ -1,5 +1,7 @@
 // A clause set in a pool of nodes: the function of a node, but yes (of a DNF) or no (of a CNF) on the clause's cube. Inner.
 // In work: the pool, three words a node, from 0 on; the memo, one word a node, from 3 * cap on; the pool's chains from 4 * cap on.
+#![tactic(auto)]
+
 ghost use Rattle.std.specs.Prelude.{◌≡◌, cond, false, ◌+◌, ◌*◌, ◌<◌, ◌≤◌, length, get_or, set};
 ghost use Rattle.put.specs.Put.{off_low, off_high, memo_base, stamp_limit, Recalls, Ready, Splits, Settling, Settles, Puts, Forking, word_of};
 
@@ -11,7 +13,7 @@ use valuation::BddVariable;
 const MEMO_BASE: u32 = 16384;
 
 // A clause, the constant that its cube leads to, its number among the clauses, and how many nodes the pool can hold.
-#[derive(Drop)]
+#[derive(Clone, Copy)]
 pub struct Job {
     pub n: u16,
     pub fixed: u64,
@@ -22,7 +24,7 @@ pub struct Job {
 }
 
 // Where a node is split: the mark, its two sides, which of them the cube leaves as they are, and whether the mark is the node's own.
-#[derive(Drop)]
+#[derive(Clone, Copy)]
 pub struct Cut {
     pub variable: BddVariable,
     pub low: BddPointer,
@@ -32,13 +34,13 @@ pub struct Cut {
     pub own: bool,
 }
 
-#[derive(Drop)]
+#[derive(Clone, Copy)]
 pub enum Step {
     Done(BddPointer),
     Split(Cut),
 }
 
-#[derive(Drop)]
+#[derive(Clone, Copy)]
 pub struct Sides {
     pub low: bool,
     pub high: bool,

@@ -1,4 +1,6 @@
 // Whether a table is reduced, as the start of a walk asks.
+#![tactic(auto)]
+
 ghost use Rattle.std.specs.Prelude.{◌≡◌, ◌+◌, ◌*◌, ◌<◌, ◌≤◌, length, replicate};
 ghost use Rattle.theory.specs.Words.{stride, node_at, nodes};
 ghost use Rattle.refusal.specs.Limits.{max_nodes};

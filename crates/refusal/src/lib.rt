@@ -1,9 +1,11 @@
 // Refusals with the specification's numbers, the answers that several entries share, the limits, and the zeroing of lent buffers. Inner.
+#![tactic(auto)]
+
 ghost use Rattle.std.specs.Prelude.{◌≡◌, ◌≤◌, length, take};
 ghost use Rattle.refusal.specs.Buffers.{padded};
 
 // A refusal: the specification's number, and the place that it returns with it.
-#[derive(Drop)]
+#[derive(Clone, Copy)]
 pub struct Refusal {
     pub number: u8,
     pub place: u64,
@@ -39,14 +41,14 @@ pub const MIN_ROOM: usize = 2;
 // The most input clauses or cases.
 pub const MAX_CLAUSES: usize = 1024;
 
-#[derive(Drop)]
+#[derive(Clone, Copy)]
 pub enum Truth {
     Yes,
     No,
     Refused(Refusal),
 }
 
-#[derive(Drop)]
+#[derive(Clone, Copy)]
 pub enum Counted {
     Number(u64),
     Refused(Refusal),

@@ -1,6 +1,8 @@
 // The replay as a function: lines of numbers in, what differs and how many calls there were out. Inner.
 // A line's numbers are, in this order: the entry; four numbers of the call; count, length and words of a first table, of a second one and of a list;
 // the lengths of the three lent buffers, nodes, clauses and work; what is wanted of the reply and of these three.
+#![tactic(auto)]
+
 ghost use Rattle.std.specs.Prelude.{◌≤◌, length};
 
 use calls::Call;

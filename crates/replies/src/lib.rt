@@ -1,4 +1,6 @@
 // Replies in a lent buffer: number, place, values, then zeros. Inner.
+#![tactic(auto)]
+
 ghost use Rattle.std.specs.Prelude.{◌≡◌, ◌≤◌, length, [], ◌∷◌};
 ghost use Rattle.refusal.specs.Buffers.{padded};
 ghost use Rattle.refusal.specs.Verdict.{gives, refusal_reply};
@@ -28,7 +30,7 @@ use walk::PathStep;
 pub const REPLY_WORDS: usize = 64;
 
 // Number, place and up to three values.
-#[derive(Drop)]
+#[derive(Clone, Copy)]
 pub struct Written {
     pub number: u64,
     pub place: u64,

@@ -1,1 +1,2 @@
 // The short list's rule: definitions and laws, no code.
+#![tactic(auto)]

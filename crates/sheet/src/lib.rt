@@ -1,4 +1,6 @@
 // Sheets: a list of clauses or a table as bytes. Everything is looked at before anything is written.
+#![tactic(auto)]
+
 ghost use Rattle.std.specs.Prelude.{◌≡◌, true, false, [], ◌∷◌, ◌+◌, ◌*◌, ◌^◌, ◌<◌, ◌≤◌, length, take};
 ghost use Rattle.refusal.specs.Buffers.{output_after};
 ghost use Rattle.refusal.specs.Verdict.{replied, judged, gives};
@@ -13,7 +15,7 @@ use refusal::{CLAUSE, CLAUSES, LIMIT, MAX_CLAUSES, MAX_MARKS, Refusal, SHEET, SH
 use table::{BddPointer, Inspection, NODE_WORDS};
 
 // The header's eight words.
-#[derive(Drop)]
+#[derive(Clone, Copy)]
 pub struct Header {
     pub version: u32,
     pub n: u32,
@@ -32,13 +34,13 @@ pub const CLAUSE_BYTES: u64 = 16;
 pub const NODE_BYTES: u64 = 12;
 
 // The section of a sheet: its marks, and its clauses or nodes.
-#[derive(Drop)]
+#[derive(Clone, Copy)]
 pub struct Section {
     pub n: u16,
     pub count: usize,
 }
 
-#[derive(Drop)]
+#[derive(Clone, Copy)]
 pub enum SheetRead {
     Dnf(Section),
     Cnf(Section),

@@ -1,5 +1,5 @@
 -- What the short list's entry answers, for any words at all.
-use Rattle.std.specs.Prelude.{Bool, not, List, [], ◌∷◌, ◌++◌, ℕ, ◌+◌, ◌≤◌, max, ltb, length}
+use Rattle.std.specs.Prelude.{Bool, not, List, [], ◌∷◌, ◌++◌, ℕ, ◌≤◌, max, ltb, length}
 use Rattle.theory.specs.Tree.{Tree}
 use Rattle.theory.specs.Table.{meaning}
 use Rattle.theory.specs.Words.{nodes}

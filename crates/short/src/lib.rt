@@ -1,4 +1,6 @@
 // The short list: `to_optimized_dnf`.
+#![tactic(auto)]
+
 ghost use Rattle.std.specs.Prelude.{◌≡◌, ◌≤◌, length};
 ghost use Rattle.theory.specs.Table.{meaning};
 ghost use Rattle.theory.specs.Words.{nodes};

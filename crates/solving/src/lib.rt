@@ -1,5 +1,7 @@
 // The short list's recursion: a frame for each depth behind the memory of functions found harmless. Inner.
 // Once the list is longer than its output only a table over room can still be found; a function known to be harmless is then not solved again.
+#![tactic(auto)]
+
 ghost use Rattle.std.specs.Prelude.{◌≡◌, ◌+◌, ◌*◌, ◌/◌, ◌<◌, ◌≤◌, take};
 ghost use Rattle.refusal.specs.Limits.{max_marks};
 ghost use Rattle.valuation.specs.Valuation.{clause_of};
@@ -13,7 +15,7 @@ use frame::{Made, Size};
 use table::NODE_WORDS;
 use valuation::{BddPartialValuation, BddVariable};
 
-#[derive(Drop)]
+#[derive(Clone, Copy)]
 pub enum Solved {
     Done(usize),
     Nodes,

@@ -1,4 +1,6 @@
 // Node tables: their words, inspection and evaluation.
+#![tactic(auto)]
+
 ghost use Rattle.std.specs.Prelude.{◌≡◌, true, false, ◌+◌, ◌*◌, ◌-◌, ◌<◌, ◌≤◌, length};
 ghost use Rattle.theory.specs.Table.{node, same, link_ok, node_ok};
 ghost use Rattle.theory.specs.Words.{stride, node_at, nodes, with_node};
@@ -12,14 +14,14 @@ use refusal::{LIMIT, MAX_MARKS, MAX_NODES, Refusal, SHORT, TABLE, Truth, VARIABL
 use valuation::BddVariable;
 
 // A node number.
-#[derive(Drop)]
+#[derive(Clone, Copy)]
 pub struct BddPointer(pub u32);
 
 // The words of a node: mark, low, high.
 pub const NODE_WORDS: usize = 3;
 
 // What inspection finds: a sound table's root, or the refusal.
-#[derive(Drop)]
+#[derive(Clone, Copy)]
 pub enum Inspection {
     Sound(BddPointer),
     Refused(Refusal),

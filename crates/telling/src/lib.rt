@@ -1,4 +1,6 @@
 // What a replay tells: the lines that differ, the calls of each entry, the totals. Inner.
+#![tactic(auto)]
+
 const LINE_END: u8 = 10;
 
 pub fn one_more(number: u64) -> u64 {

@@ -1,4 +1,6 @@
 // The program's lines, written one behind the other into a lent buffer. Inner.
+#![tactic(auto)]
+
 ghost use Rattle.std.specs.Prelude.{◌≡◌, [], ◌∷◌, ◌+◌, ◌*◌, ◌%◌, ◌<◌, ◌≤◌, length, take};
 ghost use Rattle.theory.specs.Clause.{clause, cell};
 ghost use Rattle.refusal.specs.Limits.{max_marks, max_clauses};

@@ -2,7 +2,7 @@
 use mathlib.Core.Path.{◌≡◌, refl, sym, ap, ◌∙◌}
 use mathlib.Core.Logic.{◌↔◌}
 use mathlib.Core.Bool.{Bool, true, false, cond}
-use Prim.Native.Nat.{ℕ, zero, suc, ◌+◌, ◌-◌, ◌≤◌, ◌<◌}
+use Prim.Native.Nat.{ℕ, zero, suc, ◌+◌, ◌≤◌, ◌<◌}
 use native.Mathlib.Omega.{arith}
 use lib.Dec.{eqb}
 use lib.ListN.{length, length-append}
@@ -66,4 +66,6 @@ tree_set-cofactor zero true (suc k) s l p = rw (eq-eqb l (l + 0) (omega arith), 
 tree_set-cofactor zero false (suc k) s l p = rw (eq-eqb l (l + 0) (omega arith), tree_set-past (l + 0) false k s (suc l) (step s l false p) (omega arith))
 tree_set-cofactor (suc i) v (suc k) s l p =
     let x : l + suc i ≡ suc l + i = omega arith in
-    rw (ne_eqb l (l + suc i) (λ e. omega arith), x, tree_set-cofactor i v k s (suc l) (step s l false p), tree_set-cofactor i v k s (suc l) (step s l true p))
+    let lo : tree_set (l + suc i) v k s (suc l) (step s l false p) ≡ cofactor i v (tree_of k s (suc l) (step s l false p)) = rw x (tree_set-cofactor i v k s (suc l) (step s l false p)) in
+    let hi : tree_set (l + suc i) v k s (suc l) (step s l true p) ≡ cofactor i v (tree_of k s (suc l) (step s l true p)) = rw x (tree_set-cofactor i v k s (suc l) (step s l true p)) in
+    rw (ne_eqb l (l + suc i) (λ e. omega arith), lo, hi)

@@ -1,12 +1,12 @@
 -- The canonical table is reduced.
 use mathlib.Core.Path.{◌≡◌, ap}
-use mathlib.Core.Logic.{◌⊎◌, ⊎_elim}
+use mathlib.Core.Logic.{⊎_elim}
 use mathlib.Core.List.{[], ◌∷◌}
 use Prim.Native.Nat.{ℕ, zero, suc, ◌-◌, ◌≤◌, ◌<◌}
 use native.Mathlib.Omega.{arith}
 use lib.ListN.{length}
 use Rattle.theory.specs.Tree.{Tree, Deep}
-use Rattle.theory.specs.Table.{node, Table, at, tree_of, constants, cut, canon, Reachable, Reduced}
+use Rattle.theory.specs.Table.{node, Table, tree_of, constants, cut, canon, Reachable, Reduced}
 use Rattle.theory.proofs.Canon.{Canonical, canonical, constants-good, false_ordered}
 use Rattle.theory.proofs.Reach.{Comes, walk_from, reached}
 

@@ -1,4 +1,6 @@
 // The short list of the table in the first frame: solved, then trimmed. Inner.
+#![tactic(auto)]
+
 ghost use Rattle.std.specs.Prelude.{◌≡◌, ◌+◌, ◌*◌, ◌<◌, ◌≤◌, length, take};
 ghost use Rattle.refusal.specs.Limits.{max_marks};
 ghost use Rattle.valuation.specs.Valuation.{clause_of};
@@ -12,7 +14,7 @@ use solving::Solved;
 use table::NODE_WORDS;
 use valuation::{BddPartialValuation, BddVariable};
 
-#[derive(Drop)]
+#[derive(Clone, Copy)]
 pub enum Shortened {
     Clauses(usize),
     Nodes,

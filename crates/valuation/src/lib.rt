@@ -1,4 +1,5 @@
 // Partial valuations: the marks of a cell that are fixed, and their values.
+#![tactic(auto)]
 
 ghost use Rattle.std.specs.Prelude.{◌≡◌, ◌<◌, ◌^◌, suc, length};
 ghost use Rattle.theory.specs.Mask.{bit, set_bit};
@@ -14,35 +15,35 @@ ghost use Rattle.valuation.specs.Replies.{lookup_reply, updated_reply, last_fixe
 use refusal::{CLAUSE, Counted, MAX_MARKS, Refusal, Truth, VARIABLE};
 
 // A mark number.
-#[derive(Drop)]
+#[derive(Clone, Copy)]
 pub struct BddVariable(pub u16);
 
 // A clause: a mask of the fixed marks, and one of their values. Any two words may reach an entry.
-#[derive(Drop)]
+#[derive(Clone, Copy)]
 pub struct BddPartialValuation {
     pub fixed: u64,
     pub values: u64,
 }
 
-#[derive(Drop)]
+#[derive(Clone, Copy)]
 pub enum Cell {
     Unset,
     Value(bool),
 }
 
-#[derive(Drop)]
+#[derive(Clone, Copy)]
 pub enum Lookup {
     Found(Cell),
     Refused(Refusal),
 }
 
-#[derive(Drop)]
+#[derive(Clone, Copy)]
 pub enum Updated {
     Valuation(BddPartialValuation),
     Refused(Refusal),
 }
 
-#[derive(Drop)]
+#[derive(Clone, Copy)]
 pub enum LastFixed {
     Variable(BddVariable),
     Nothing,
@@ -50,7 +51,7 @@ pub enum LastFixed {
 }
 
 // An enum may hold no array, so number 0 says that the list is not refused.
-#[derive(Drop)]
+#[derive(Clone, Copy)]
 pub struct ValueList {
     pub refusal: Refusal,
     pub count: usize,

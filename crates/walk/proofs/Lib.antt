@@ -1,7 +1,5 @@
 pub mod PathLaws
 pub mod StartLaws
-pub mod LentOut
-pub mod NextCall
 pub mod Ways
 pub mod KthLaws
 pub mod Sounds

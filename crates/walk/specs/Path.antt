@@ -1,5 +1,5 @@
 -- Paths to node 1, as the nodes on the way: the first one, the next one, and a path's clause.
-use Rattle.std.specs.Prelude.{◌≡◌, ◌⊎◌, Bool, cond, not, ◌&&◌, List, [], ◌∷◌, ◌++◌, ℕ, zero, suc, ◌+◌, ◌-◌, ◌*◌, ◌≤◌, ◌<◌, eqb, ltb, length, get_or, take, replicate}
+use Rattle.std.specs.Prelude.{◌≡◌, ◌⊎◌, Bool, cond, not, ◌&&◌, List, [], ◌∷◌, ◌++◌, ℕ, zero, suc, ◌-◌, ◌*◌, ◌≤◌, ◌<◌, eqb, ltb, length, get_or, take, replicate}
 use Rattle.theory.specs.Table.{Node, Reduced}
 use Rattle.theory.specs.Words.{stride, node_at, nodes}
 use Rattle.theory.specs.Clause.{Clause, empty_clause, set_cell}

@@ -1,5 +1,7 @@
 // The path walk: a struct that holds a table's words by reference and the path that its next step tells of. What it does stands in functions on
 // slices and numbers; the struct's own functions only take it apart and put it together.
+#![tactic(auto)]
+
 ghost use Rattle.std.specs.Prelude.{◌≡◌, ◌++◌, ◌+◌, ◌*◌, ◌<◌, ◌≤◌, ◌-◌, length, take};
 ghost use Rattle.theory.specs.Table.{Reduced};
 ghost use Rattle.theory.specs.Words.{stride, node_at, nodes};
@@ -15,21 +17,21 @@ use table::{BddPointer, Inspection};
 use valuation::BddPartialValuation;
 
 // What a step says.
-#[derive(Drop)]
+#[derive(Clone, Copy)]
 pub enum PathStep {
     Clause(BddPartialValuation),
     Ended,
 }
 
 // Inner: the first `len` places of `path` are the nodes from the root to node 1. There is a place for each mark, and one for the constant.
-#[derive(Drop)]
+#[derive(Clone, Copy)]
 pub struct PathState {
     pub len: u32,
     pub path: [BddPointer; 61],
 }
 
 // Inner: what a start finds, its refusal and the first path.
-#[derive(Drop)]
+#[derive(Clone, Copy)]
 pub struct PathStart {
     pub number: u8,
     pub place: u64,
@@ -38,7 +40,7 @@ pub struct PathStart {
 }
 
 // Only a start makes one.
-#[derive(Drop)]
+#[derive(Clone, Copy)]
 pub struct BddPathIterator<'a> {
     bdd: &'a [u32],
     len: u32,
@@ -225,13 +227,14 @@ fn held_words<'a>(number: u8, bdd: &'a [u32]) -> &'a [u32]
 impl<'a> BddPathIterator<'a> {
     // Starts a walk on a table. It holds the table's words by reference; a refused start holds none, and each of its steps says that it has ended.
     pub fn new(n: u16, count: usize, bdd: &'a [u32]) -> BddPathIterator<'a>
-        ensures { (result.bdd.now ≡ words_of n count bdd.now) × (result.bdd.ptr ≡ bdd.entry.ref_ptr) × (start_in result ≡ start_of n count bdd.now) }
+        ensures { (result.bdd.now ≡ words_of n count bdd.now) × (result.bdd.ref_ptr ≡ bdd.entry.ref_ptr) × (start_in result ≡ start_of n count bdd.now) }
     {
         let s = start_of(n, count, bdd);
+        let path = s.path;
         BddPathIterator {
             bdd: held_words(s.number, bdd),
             len: s.len,
-            path: s.path,
+            path,
             number: s.number,
             place: s.place,
         }
@@ -242,13 +245,15 @@ impl<'a> BddPathIterator<'a> {
         requires { FromStart self.old }
         ensures { (path_step_reply result ≡ replied (step_of self.old.bdd.now (path_in self.old))) × (self.new ≡ moved self.old) }
     {
+        let path = self.path;
         let s = PathState {
             len: self.len,
-            path: self.path,
+            path,
         };
         let t = next_path(self.bdd, s);
         self.len = t.len;
-        self.path = t.path;
+        let path = t.path;
+        self.path = path;
         step_of(self.bdd, s)
     }
 

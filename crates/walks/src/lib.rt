@@ -1,4 +1,6 @@
 // Whole walks for the replay: a walk is started once and stepped to its end and past it. Inner.
+#![tactic(auto)]
+
 use refusal::Refusal;
 use walk::{BddPathIterator, PathStep};
 

@@ -1,0 +1,40 @@
+use mathlib.Core.Path.{sym, ap, ◌∙◌}
+use native.Mathlib.Omega.{arith}
+use Rattle.table.proofs.InspectLaws.{within}
+use Rattle.making.specs.Room.{short_work}
+use Rattle.making.proofs.RoomLaws.{roomy}
+use Rattle.admission.specs.Admission.{sizes}
+use Rattle.admission.proofs.size_refusal.Goals as goal
+
+pub returns-then-over_limit : goal.returns-then-over_limit
+unfolding sizes
+returns-then-over_limit c = rw (← (sym c.if-over_limit.true ∙ c.over_limit.ensures))
+
+pub returns-then-over_room : goal.returns-then-over_room
+unfolding sizes
+returns-then-over_room c = rw (← (sym c.if-over_limit.false ∙ c.over_limit.ensures), ← (sym c.if-over_room.true ∙ c.over_room.ensures))
+
+pub too_short-requires : goal.too_short-requires
+too_short-requires c = (within _ _ (sym c.if-over_limit.false ∙ c.over_limit.ensures)).few
+
+pub returns-then-too_short : goal.returns-then-too_short
+unfolding sizes
+returns-then-too_short c = rw (← (sym c.if-over_limit.false ∙ c.over_limit.ensures), ← (sym c.if-over_room.false ∙ c.over_room.ensures), ← (sym c.if-too_short.true ∙ c.too_short.ensures))
+
+pub short_output-requires : goal.short_output-requires
+short_output-requires c = (roomy _ (sym c.if-over_room.false ∙ c.over_room.ensures)).few
+
+pub returns-then-short_output : goal.returns-then-short_output
+unfolding sizes
+returns-then-short_output c = rw (← (sym c.if-over_limit.false ∙ c.over_limit.ensures), ← (sym c.if-over_room.false ∙ c.over_room.ensures), ← (sym c.if-too_short.false ∙ c.too_short.ensures), ← (sym c.if-short_output.true ∙ c.short_output.ensures))
+
+pub short_work-requires : goal.short_work-requires
+short_work-requires c = omega (arith, c.wider.ensures, (within _ _ (sym c.if-over_limit.false ∙ c.over_limit.ensures)).few, (roomy _ (sym c.if-over_room.false ∙ c.over_room.ensures)).few)
+
+pub returns-then-short_work : goal.returns-then-short_work
+unfolding sizes
+returns-then-short_work c = rw (← (sym c.if-over_limit.false ∙ c.over_limit.ensures), ← (sym c.if-over_room.false ∙ c.over_room.ensures), ← (sym c.if-too_short.false ∙ c.too_short.ensures), ← (sym c.if-short_output.false ∙ c.short_output.ensures), ← (sym c.if-short_work.true ∙ c.short_work.ensures ∙ ap (λ x. short_work x c.args.work.now) c.wider.ensures))
+
+pub returns : goal.returns
+unfolding sizes
+returns c = rw (← (sym c.if-over_limit.false ∙ c.over_limit.ensures), ← (sym c.if-over_room.false ∙ c.over_room.ensures), ← (sym c.if-too_short.false ∙ c.too_short.ensures), ← (sym c.if-short_output.false ∙ c.short_output.ensures), ← (sym c.if-short_work.false ∙ c.short_work.ensures ∙ ap (λ x. short_work x c.args.work.now) c.wider.ensures))

@@ -1,0 +1,21 @@
+use Rattle.operators.specs.Operators.{makes_for_all}
+use Rattle.join.proofs.TruthLaws.{and-table}
+use Rattle.making.proofs.MakesLaws.{equations}
+use Rattle.operators.proofs.OperatorLaws.{mark-refused, mark-few, mark-given, mark_outcome}
+use Rattle.operators.proofs.var_for_all.Goals as goal
+
+pub returns-in_default : goal.returns-in_default
+unfolding makes_for_all
+returns-in_default c = let parts = equations _ _ _ _ _ _ (mark-refused c.args.n c.args.count c.args.nodes.now c.args.room c.args.out.now c.args.work.now c.args.variable _ c.admit_table_room_mark-admitted.ensures _ _ _ c.in_default.is c.refusal_of.ensures) in
+    record { result_value = parts.0; out_after = parts.1.0; work_after = parts.1.1 }
+
+pub mark_job-job-requires : goal.mark_job-job-requires
+mark_job-job-requires c = mark-few c.args.n c.args.count c.args.nodes.now c.args.room c.args.out.now c.args.work.now c.args.variable _ c.admit_table_room_mark-admitted.ensures _ c.in-Sound.is
+
+pub joined-requires : goal.joined-requires
+joined-requires c = mark-given c.args.n c.args.count c.args.nodes.now c.args.room c.args.out.now c.args.work.now c.args.variable _ c.admit_table_room_mark-admitted.ensures _ c.in-Sound.is _ _ c.mark_job-job.ensures
+
+pub returns : goal.returns
+unfolding makes_for_all
+returns c = let parts = equations _ _ _ _ _ _ (mark_outcome c.args.n c.args.count c.args.nodes.now c.args.room c.args.out.now c.args.work.now c.args.variable _ c.admit_table_room_mark-admitted.ensures _ c.in-Sound.is _ _ and-table _ c.mark_job-job.ensures _ _ _ c.joined.ensures) in
+    record { result_value = parts.0; out_after = parts.1.0; work_after = parts.1.1 }
