@@ -6,7 +6,7 @@ fn main() {
     let library = folder.join("libexports.a");
     println!("cargo:rerun-if-changed={}", library.display());
     if !library.is_file() {
-        panic!("{} is missing: run 'rt check exports' and 'tests/native-lib exports' in the repository first", library.display());
+        panic!("{} is missing: run 'tests/native-lib exports' in the repository first", library.display());
     }
     println!("cargo:rustc-link-search=native={}", folder.display());
     println!("cargo:rustc-link-lib=static=exports");

@@ -1,8 +1,7 @@
 //! The program as a process: a sheet goes to its standard input, and all that it prints comes back.
 use crate::root;
-use std::ffi::OsString;
 use std::io::{ErrorKind, Write};
-use std::path::{Path, PathBuf};
+use std::path::PathBuf;
 use std::process::{Command, Stdio};
 use std::thread::sleep;
 use std::time::Duration;
@@ -15,41 +14,12 @@ pub struct Printed {
     pub status: Option<i32>,
 }
 
-pub struct Program(Vec<OsString>);
-
-/// Programs are compiled for x86-64; elsewhere the kit has an emulator.
-pub const IS_EMULATED: bool = cfg!(not(target_arch = "x86_64"));
-
-fn existing(path: PathBuf, advice: &str) -> PathBuf {
-    assert!(path.exists(), "{} is missing: {advice}", path.display());
-    path
-}
-
-/// The folder of the kit's loader and emulator: beside `rt`, as ./run finds it.
-fn toolchain() -> PathBuf {
-    let folders = std::env::var_os("PATH").expect("there is a PATH");
-    let rt = std::env::split_paths(&folders).map(|folder| folder.join("rt")).find(|rt| rt.is_file()).expect("'rt' is on the PATH");
-    let rt = rt.canonicalize().unwrap();
-    let kit = rt.parent().and_then(Path::parent).unwrap();
-    kit.join("on").join(std::env::consts::ARCH).join("toolchain")
-}
+pub struct Program(PathBuf);
 
 impl Program {
-    /// The file that `rt check mill` makes, started as ./run starts it.
+    /// The file that ./run starts.
     pub fn as_run() -> Program {
-        let tools = toolchain();
-        let file = existing(root().join("target/bin/mill"), "run 'rt check mill' first");
-        let loader = [tools.join("lib/ld-linux-x86-64.so.2"), "--library-path".into(), tools.join("lib"), file];
-        let emulator = IS_EMULATED.then(|| tools.join("bin/qemu-x86_64"));
-        Program(emulator.into_iter().chain(loader).map(OsString::from).collect())
-    }
-
-    /// The quickest form: on another machine than x86-64, the same proved module compiled for it.
-    pub fn native() -> Program {
-        match IS_EMULATED {
-            true => Program(vec![existing(root().join("target/native/mill"), "run 'tests/native-lib mill' first (./test does)").into()]),
-            false => Program::as_run(),
-        }
+        Program(root().join("target/native/mill"))
     }
 
     /// Runs the program on a sheet.
@@ -59,9 +29,10 @@ impl Program {
 
     /// Runs the program on a sheet that comes in pieces, with a pause before each but the first.
     pub fn print_pieces(&self, pieces: &[&[u8]], pause: Duration) -> Printed {
-        let mut command = Command::new(&self.0[0]);
-        command.args(&self.0[1..]).stdin(Stdio::piped()).stdout(Stdio::piped()).stderr(Stdio::piped());
-        let mut process = command.spawn().unwrap_or_else(|error| panic!("{:?}: {error}", self.0));
+        let mut command = Command::new(&self.0);
+        command.stdin(Stdio::piped()).stdout(Stdio::piped()).stderr(Stdio::piped());
+        let advice = "run 'tests/native-lib mill' first (./test does)";
+        let mut process = command.spawn().unwrap_or_else(|error| panic!("{}: {error}: {advice}", self.0.display()));
         let mut input = process.stdin.take().unwrap();
         for (i, piece) in pieces.iter().enumerate() {
             if i > 0 {

@@ -1,13 +1,12 @@
 //! The program as a process against a second reading of what it prints: the specification's own sheets, and a hundred thousand others,
-//! whole and damaged. On another machine than x86-64 each start takes the emulator a fiftieth of a second; there the same proved module,
-//! compiled for the machine, prints them all, and the file that ./run starts prints one in two hundred.
+//! whole and damaged.
 use biodivine_lib_bdd::{Bdd, BddVariableSet};
 use differ::answer::{CLAUSE, CLAUSES, LIMIT, NODES, SHEET};
 use differ::building::all_marks;
 use differ::convert::to_valuation;
 use differ::corpus::{unreduced, windowed};
 use differ::lists::{cell, interval, large_list, parity, random_cells, some_clauses};
-use differ::program::{compare, Printed, Program, IS_EMULATED};
+use differ::program::{compare, Printed, Program};
 use differ::random::Random;
 use differ::reading::Valuation;
 use differ::reading_program::{milled, Milled, Step, MOST_BYTES, ROOM};
@@ -17,7 +16,6 @@ use std::collections::BTreeMap;
 use std::time::Duration;
 
 const LEAST_SHEETS: u64 = 100_000;
-const EMULATED_ONE_IN: u64 = 200;
 const KINDS: [u64; 2] = [DNF, CNF];
 const N_WORD: usize = 1;
 const KIND_WORD: usize = 7;
@@ -34,16 +32,14 @@ const REFUSALS: [(Step, u64); 6] = [
 /// The sheets of a run, counted and compared.
 struct Run {
     program: Program,
-    as_run: Program,
     sheets: u64,
     listed: u64,
-    emulated: u64,
     refused: BTreeMap<(Step, u64), u64>,
 }
 
 impl Run {
     fn new() -> Run {
-        Run { program: Program::native(), as_run: Program::as_run(), sheets: 0, listed: 0, emulated: 0, refused: BTreeMap::new() }
+        Run { program: Program::as_run(), sheets: 0, listed: 0, refused: BTreeMap::new() }
     }
 
     fn count(&mut self, want: &Milled) {
@@ -59,17 +55,12 @@ impl Run {
         let want = milled(sheet);
         self.count(&want);
         demand(&want, &self.program.print(sheet), sheet);
-        if IS_EMULATED && self.sheets % EMULATED_ONE_IN == 0 {
-            self.emulated += 1;
-            demand(&want, &self.as_run.print(sheet), sheet);
-        }
         want
     }
 
     fn absorb(&mut self, other: Run) {
         self.sheets += other.sheets;
         self.listed += other.listed;
-        self.emulated += other.emulated;
         for (refusal, times) in other.refused {
             *self.refused.entry(refusal).or_default() += times;
         }
@@ -90,7 +81,7 @@ impl Run {
     }
 
     fn print(&self) {
-        println!("calls of the program: {} sheets, listed: {}, by the emulated file too: {}", self.sheets, self.listed, self.emulated);
+        println!("calls of the program: {} sheets, listed: {}", self.sheets, self.listed);
         for ((step, number), times) in &self.refused {
             println!("refused the program {number} {times} ({step:?})");
         }
@@ -342,7 +333,7 @@ fn sheets_may_come_in_pieces() {
 #[test]
 fn another_text_is_objected_to() {
     let sheet = list_sheet(DNF, 3, &list(&["10-", "1-1"]));
-    let (want, got) = (milled(&sheet).text(), Program::native().print(&sheet));
+    let (want, got) = (milled(&sheet).text(), Program::as_run().print(&sheet));
     assert_eq!(compare(&want, &got), Ok(()));
     for at in 0..want.len() {
         let (front, back) = want.split_at(at);

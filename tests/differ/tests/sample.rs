@@ -9,7 +9,6 @@ use differ::tally::families;
 use std::collections::{BTreeMap, BTreeSet};
 use std::fs::read_to_string;
 use std::io::Write;
-use std::path::PathBuf;
 use std::process::{Command, Stdio};
 
 /// Longer input the program does not read.
@@ -108,19 +107,10 @@ fn a_line_by_hand() {
     assert_eq!(call.line(), "14 1 2 0 0 2 6 1 0 0 1 1 1 0 0 0 0 6 0 216 4 0 0 1 4 1 0 0 0 1");
 }
 
-/// The kit's tools for this machine, as `./run` finds them.
-fn tools() -> PathBuf {
-    let found = std::env::split_paths(&std::env::var("PATH").unwrap()).map(|folder| folder.join("rt")).find(|rt| rt.is_file());
-    let rt = found.unwrap().canonicalize().unwrap();
-    rt.parent().unwrap().parent().unwrap().join("on").join(std::env::consts::ARCH).join("toolchain")
-}
-
 /// What the program, which the gate has built, writes for these lines.
 fn replayed(lines: &str) -> String {
-    let emulator = Some(tools().join("bin/qemu-x86_64")).filter(|emulator| emulator.is_file());
-    let loader = [tools().join("lib/ld-linux-x86-64.so.2"), "--library-path".into(), tools().join("lib"), root().join("target/bin/replay")];
-    let words: Vec<PathBuf> = emulator.into_iter().chain(loader).collect();
-    let mut run = Command::new(&words[0]).args(&words[1..]).stdin(Stdio::piped()).stdout(Stdio::piped()).spawn().unwrap();
+    let program = root().join("target/native/replay");
+    let mut run = Command::new(&program).stdin(Stdio::piped()).stdout(Stdio::piped()).spawn().unwrap();
     run.stdin.take().unwrap().write_all(lines.as_bytes()).unwrap();
     String::from_utf8(run.wait_with_output().unwrap().stdout).unwrap()
 }

@@ -21,15 +21,13 @@ impl Folder {
         Folder(path)
     }
 
-    /// A copy of the repository as a clone would have it, with the proofs' stamps, the programs and the library that the gate made.
+    /// A copy of the repository as a clone would have it, with the programs and the library that the gate made.
     fn of_repository() -> Folder {
         let folder = Folder::new("copy");
         copy_files(&root(), &folder.0);
-        for part in ["stamp", "bin", "native"] {
-            let from = root().join("target").join(part);
-            if from.is_dir() {
-                copy_files(&from, &folder.0.join("target").join(part));
-            }
+        let made = root().join("target/native");
+        if made.is_dir() {
+            copy_files(&made, &folder.0.join("target/native"));
         }
         folder
     }
@@ -50,7 +48,7 @@ fn copy_files(from: &Path, to: &Path) {
     create_dir_all(to).unwrap();
     for entry in read_dir(from).unwrap().map(Result::unwrap) {
         let (name, target) = (entry.file_name(), to.join(entry.file_name()));
-        if name == "target" || name == ".git" {
+        if name == "target" || name == "out" || name == ".git" {
             continue;
         }
         if entry.file_type().unwrap().is_dir() {
@@ -173,7 +171,7 @@ fn names<'a>(page: &'a str, before: &str) -> Vec<&'a str> {
 
 #[test]
 fn the_header_names_every_export_and_no_other() {
-    let exports = read_to_string(root().join("crates/exports/src/lib.rt")).unwrap();
+    let exports = read_to_string(root().join("crates/exports_c/src/lib.rt")).unwrap();
     let header = read_to_string(root().join("include/collartug.h")).unwrap();
     assert_eq!(names(&header, "uint64_t collartug_"), names(&exports, "extern \"C\" fn collartug_"));
 }
