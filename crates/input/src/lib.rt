@@ -14,8 +14,8 @@ pub fn buffer<const N: usize>() -> [u8; N]
     [0; N]
 }
 
-// Reads until the buffer is full or the input ends: how many bytes at its front are the input's. A read that a signal cuts short is tried again;
-// any other error is handed on.
+// Reads until the buffer is full or the input ends, and answers how many bytes at the buffer's front are the input's. A read that a signal cuts short is tried
+// again, as often as a u64 counts, since a loop has to end; any other error is handed on.
 pub fn read_full<R: Read>(input: &mut R, buf: &mut [u8]) -> io::Result<usize>
     ensures fits { IfOk result (λ n. n ≤ length buf.new) }
     ensures bytes { IfOk result (λ n. Consumes (R.remaining input.old) (R.remaining input.new) (take n buf.new)) }

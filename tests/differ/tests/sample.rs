@@ -110,7 +110,12 @@ fn a_line_by_hand() {
 /// What the program, which the gate has built, writes for these lines.
 fn replayed(lines: &str) -> String {
     let program = root().join("target/native/replay");
-    let mut run = Command::new(&program).stdin(Stdio::piped()).stdout(Stdio::piped()).spawn().unwrap();
+    let advice = "run 'tests/native-lib replay' first (./test does)";
+    let mut run = Command::new(&program)
+        .stdin(Stdio::piped())
+        .stdout(Stdio::piped())
+        .spawn()
+        .unwrap_or_else(|error| panic!("{}: {error}: {advice}", program.display()));
     run.stdin.take().unwrap().write_all(lines.as_bytes()).unwrap();
     String::from_utf8(run.wait_with_output().unwrap().stdout).unwrap()
 }
