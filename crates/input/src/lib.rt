@@ -15,7 +15,7 @@ pub fn buffer<const N: usize>() -> [u8; N]
 }
 
 // Reads until the buffer is full or the input ends, and answers how many bytes at the buffer's front are the input's. A read that a signal cuts short is tried
-// again, as often as a u64 counts, since a loop has to end; any other error is handed on.
+// again; any other error is handed on. After 2^64 − 1 reads in all it answers that it was interrupted, since a loop has to end.
 pub fn read_full<R: Read>(input: &mut R, buf: &mut [u8]) -> io::Result<usize>
     ensures fits { IfOk result (λ n. n ≤ length buf.new) }
     ensures bytes { IfOk result (λ n. Consumes (R.remaining input.old) (R.remaining input.new) (take n buf.new)) }
