@@ -17,9 +17,9 @@ use Rattle.refusal.proofs.Judged.{Clean, Quiet, passes}
 use Rattle.table.specs.declared.BddPointer.{BddPointer}
 use Rattle.table.specs.declared.Inspection.{Inspection}
 use Rattle.table.specs.declared.Inspection.TheVariants.{Sound, Refused}
-use Rattle.table.specs.Inspection.{inspection_reply, refusal_in, over_limit, too_short, first_bad, root_of, SoundTable}
+use Rattle.table.specs.Inspection.{inspection_reply, over_limit, too_short, first_bad, root_of, SoundTable}
 use Rattle.table.proofs.AdmissionLaws.{admission_refused, admission_clean, sound-table}
-use Rattle.making.specs.declared.Made.TheVariants as made
+use Rattle.std.specs.Prelude.{Err}
 use Rattle.making.specs.Room.{over_room, short_output, short_work}
 use Rattle.making.specs.Made.{makes}
 use Rattle.making.proofs.RoomLaws.{Roomy, roomy, output-long, work_long}
@@ -28,9 +28,9 @@ use Rattle.admission.specs.Admission.{work_findings, table_room_findings, mark_f
 
 -- refused in its admission, an entry that makes a table touches nothing
 pub refused_outcome : (fs : List Finding) → Quiet fs → (count : ℕ) (a : Inspection) → inspection_reply a ≡ replied (judged fs (root_of count))
-    → (r q : Refusal) → a ≡ Refused r → q ≡ refusal_in a → (over : Bool) (place : ℕ) (t : Table) (out work : List ℕ)
-    → Outcome (makes fs over place t) (made.Refused q) out out work work
-refused_outcome fs quiet count a e r q is-r is-q over place t out work = makes-refused fs over place t quiet q (admission_refused fs count a e r q is-r is-q) out work
+    → (q : Refusal) → a ≡ Refused q → (over : Bool) (place : ℕ) (t : Table) (out work : List ℕ)
+    → Outcome (makes fs over place t) (Err q) out out work work
+refused_outcome fs quiet count a e q is over place t out work = makes-refused fs over place t quiet q (admission_refused fs count a e q is) out work
 
 -- admitted, it would answer the root
 pub clean-answers : (fs : List Finding) (count : ℕ) → Clean (judged fs) → gives ((count - 1) ∷ []) ≡ replied (judged fs (root_of count))

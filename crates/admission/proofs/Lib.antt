@@ -1,2 +1,1 @@
-pub mod SizeLaws
 pub mod Admitted

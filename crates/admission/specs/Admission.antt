@@ -1,7 +1,9 @@
 -- What may be wrong with entries that take work, group by group; the order comes from `judged` alone.
-use Rattle.std.specs.Prelude.{Bool, cond, List, [], ◌∷◌, ◌++◌, ℕ, max, leb}
-use Rattle.refusal.specs.Number.{LIMIT, SHORT, VARIABLE}
+use Rattle.std.specs.Prelude.{Bool, cond, List, [], ◌∷◌, ◌++◌, ℕ, max, leb, Result, Ok, Err}
+use Rattle.refusal.specs.Number.{SHORT, VARIABLE}
 use Rattle.refusal.specs.Verdict.{Finding, finding}
+use Rattle.refusal.specs.declared.Refusal.{Refusal}
+use Rattle.refusal.specs.declared.RefusalKind.TheVariants.{Limit, Short}
 use Rattle.table.specs.Inspection.{over_limit, too_short, table_findings}
 use Rattle.making.specs.Room.{over_room, short_output, short_work, room_findings}
 
@@ -26,17 +28,24 @@ abbrev pub pair_findings : ℕ → ℕ → List ℕ → ℕ → List ℕ → ℕ
 pair_findings n lefts left rights right room out work =
     table_findings n lefts left ++ (table_findings n rights right ++ room_findings room out (max room (max lefts rights)) work)
 
--- LIMIT, then SHORT, of the sizes alone; 0 where neither is due
-unfoldable pub sizes : ℕ → ℕ → List ℕ → ℕ → List ℕ → List ℕ → ℕ
-sizes n count words room out work =
-    cond (over_limit n count) LIMIT
-    (cond (over_room room) LIMIT
-    (cond (too_short count words) SHORT (cond (short_output room out) SHORT (cond (short_work (max room count) work) SHORT 0))))
+abbrev pub limit : Result (Unit {0}) Refusal
+limit = Err (record { kind = Limit; place = 0 })
 
-unfoldable pub pair_sizes : ℕ → ℕ → List ℕ → ℕ → List ℕ → ℕ → List ℕ → List ℕ → ℕ
+abbrev pub short : Result (Unit {0}) Refusal
+short = Err (record { kind = Short; place = 0 })
+
+-- LIMIT, then SHORT, of the sizes alone
+unfoldable pub sizes : ℕ → ℕ → List ℕ → ℕ → List ℕ → List ℕ → Result (Unit {0}) Refusal
+sizes n count words room out work =
+    cond (over_limit n count) limit
+    (cond (over_room room) limit
+    (cond (too_short count words) short (cond (short_output room out) short (cond (short_work (max room count) work) short (Ok tt)))))
+
+unfoldable pub pair_sizes : ℕ → ℕ → List ℕ → ℕ → List ℕ → ℕ → List ℕ → List ℕ → Result (Unit {0}) Refusal
 pair_sizes n lefts left rights right room out work =
-    cond (over_limit n lefts) LIMIT
-    (cond (over_limit n rights) LIMIT
-    (cond (over_room room) LIMIT
-    (cond (too_short lefts left) SHORT
-    (cond (too_short rights right) SHORT (cond (short_output room out) SHORT (cond (short_work (max room (max lefts rights)) work) SHORT 0))))))
+    cond (over_limit n lefts) limit
+    (cond (over_limit n rights) limit
+    (cond (over_room room) limit
+    (cond (too_short lefts left) short
+    (cond (too_short rights right) short
+    (cond (short_output room out) short (cond (short_work (max room (max lefts rights)) work) short (Ok tt)))))))

@@ -1,20 +1,15 @@
 // The tests of entries that take work, in the order of their numbers. Inner.
-#![tactic(auto)]
+#![tactic(auto, using(table::proofs::InspectLaws::within, table::proofs::InspectLaws::long, table::proofs::InspectLaws::inspected_reply, making::proofs::RoomLaws::roomy), unfolding(refusal::specs::Number::order, refusal::specs::Verdict::judged, refusal::specs::Verdict::tried, refusal::specs::Verdict::first_of, refusal::specs::Verdict::replied, table::specs::Inspection::roots, crate::specs::Admission::sizes, crate::specs::Admission::pair_sizes))]
 
-ghost use Rattle.std.specs.Prelude.{◌≡◌, max};
+ghost use Rattle.std.specs.Prelude.{◌≡◌};
 ghost use Rattle.refusal.specs.Verdict.{replied, judged};
-ghost use Rattle.table.specs.Inspection.{inspection_reply, root_of};
+ghost use Rattle.refusal.specs.Told.{reply_of};
+ghost use Rattle.table.specs.Inspection.{pointer, inspection_reply, root_of};
 ghost use Rattle.admission.specs.Admission.{work_findings, table_room_findings, mark_findings, pair_findings, sizes, pair_sizes, over_mark};
 
-use refusal::{LIMIT, Refusal, SHORT, VARIABLE};
-use table::Inspection;
+use refusal::{Refusal, RefusalKind, refuse_if};
+use table::{BddPointer, Inspection};
 use valuation::BddVariable;
-
-pub fn wider(a: usize, b: usize) -> usize
-    ensures { result ≡ max a b }
-{
-    if a < b { b } else { a }
-}
 
 fn over_mark(n: u16, variable: BddVariable) -> bool
     ensures { result ≡ over_mark n variable.0 }
@@ -22,42 +17,58 @@ fn over_mark(n: u16, variable: BddVariable) -> bool
     n <= variable.0
 }
 
+// The tests of a table and work.
+fn work_root(n: u16, count: usize, bdd: &[u32], work: &[u32]) -> Result<BddPointer, Refusal>
+    ensures { reply_of pointer result ≡ replied (judged (work_findings n count bdd.now work.now) (root_of count)) }
+{
+    refuse_if(table::over_limit(n, count), RefusalKind::Limit, 0)?;
+    refuse_if(table::too_short(count, bdd), RefusalKind::Short, 0)?;
+    refuse_if(making::short_work(count, work), RefusalKind::Short, 0)?;
+    table::ordered_root(n, count, bdd)
+}
+
 // A table and work.
 pub fn admit_table_work(n: u16, count: usize, bdd: &[u32], work: &[u32]) -> Inspection
     ensures { inspection_reply result ≡ replied (judged (work_findings n count bdd.now work.now) (root_of count)) }
 {
-    if table::over_limit(n, count) {
-        return table::refused(LIMIT);
-    }
-    if table::too_short(count, bdd) {
-        return table::refused(SHORT);
-    }
-    if making::short_work(count, work) {
-        return table::refused(SHORT);
-    }
-    table::ordered_root(n, count, bdd)
+    Inspection::from(work_root(n, count, bdd, work))
 }
 
-// LIMIT or SHORT of a table, a room, an output and work, whichever comes first; 0 where neither is due.
-fn size_refusal(n: u16, count: usize, bdd: &[u32], room: usize, out: &[u32], work: &[u32]) -> u8
+// LIMIT or SHORT of a table, a room, an output and work, whichever comes first.
+fn check_sizes(
+    n: u16,
+    count: usize,
+    bdd: &[u32],
+    room: usize,
+    out: &[u32],
+    work: &[u32],
+) -> Result<(), Refusal>
     ensures { result ≡ sizes n count bdd.now room out.now work.now }
 {
-    if table::over_limit(n, count) {
-        return LIMIT;
-    }
-    if making::over_room(room) {
-        return LIMIT;
-    }
-    if table::too_short(count, bdd) {
-        return SHORT;
-    }
-    if making::short_output(room, out) {
-        return SHORT;
-    }
-    if making::short_work(wider(room, count), work) {
-        return SHORT;
-    }
-    0
+    refuse_if(table::over_limit(n, count), RefusalKind::Limit, 0)?;
+    refuse_if(making::over_room(room), RefusalKind::Limit, 0)?;
+    refuse_if(table::too_short(count, bdd), RefusalKind::Short, 0)?;
+    refuse_if(making::short_output(room, out), RefusalKind::Short, 0)?;
+    refuse_if(
+        making::short_work(room.max(count), work),
+        RefusalKind::Short,
+        0,
+    )
+}
+
+// The tests of a table, a room, an output and work.
+fn room_root(
+    n: u16,
+    count: usize,
+    bdd: &[u32],
+    room: usize,
+    out: &[u32],
+    work: &[u32],
+) -> Result<BddPointer, Refusal>
+    ensures { reply_of pointer result ≡ replied (judged (table_room_findings n count bdd.now room out.now work.now) (root_of count)) }
+{
+    check_sizes(n, count, bdd, room, out, work)?;
+    table::ordered_root(n, count, bdd)
 }
 
 // A table, a room, an output and work.
@@ -71,10 +82,27 @@ pub fn admit_table_room(
 ) -> Inspection
     ensures { inspection_reply result ≡ replied (judged (table_room_findings n count bdd.now room out.now work.now) (root_of count)) }
 {
-    let number = size_refusal(n, count, bdd, room, out, work);
-    if number != 0 {
-        return table::refused(number);
-    }
+    Inspection::from(room_root(n, count, bdd, room, out, work))
+}
+
+// The same tests with a mark's.
+fn mark_root(
+    n: u16,
+    count: usize,
+    bdd: &[u32],
+    variable: BddVariable,
+    room: usize,
+    out: &[u32],
+    work: &[u32],
+) -> Result<BddPointer, Refusal>
+    ensures { reply_of pointer result ≡ replied (judged (mark_findings n count bdd.now variable.0 room out.now work.now) (root_of count)) }
+{
+    check_sizes(n, count, bdd, room, out, work)?;
+    refuse_if(
+        over_mark(n, variable),
+        RefusalKind::Variable,
+        u64::from(variable.0),
+    )?;
     table::ordered_root(n, count, bdd)
 }
 
@@ -90,21 +118,11 @@ pub fn admit_table_room_mark(
 ) -> Inspection
     ensures { inspection_reply result ≡ replied (judged (mark_findings n count bdd.now variable.0 room out.now work.now) (root_of count)) }
 {
-    let number = size_refusal(n, count, bdd, room, out, work);
-    if number != 0 {
-        return table::refused(number);
-    }
-    if over_mark(n, variable) {
-        return Inspection::Refused(Refusal {
-            number: VARIABLE,
-            place: variable.0 as u64,
-        });
-    }
-    table::ordered_root(n, count, bdd)
+    Inspection::from(mark_root(n, count, bdd, variable, room, out, work))
 }
 
-// LIMIT or SHORT of two tables, a room, an output and work, whichever comes first; 0 where neither is due.
-fn pair_size_refusal(
+// LIMIT or SHORT of two tables, a room, an output and work, whichever comes first.
+fn check_pair_sizes(
     n: u16,
     left_count: usize,
     left: &[u32],
@@ -113,31 +131,35 @@ fn pair_size_refusal(
     room: usize,
     out: &[u32],
     work: &[u32],
-) -> u8
+) -> Result<(), Refusal>
     ensures { result ≡ pair_sizes n left_count left.now right_count right.now room out.now work.now }
 {
-    if table::over_limit(n, left_count) {
-        return LIMIT;
-    }
-    if table::over_limit(n, right_count) {
-        return LIMIT;
-    }
-    if making::over_room(room) {
-        return LIMIT;
-    }
-    if table::too_short(left_count, left) {
-        return SHORT;
-    }
-    if table::too_short(right_count, right) {
-        return SHORT;
-    }
-    if making::short_output(room, out) {
-        return SHORT;
-    }
-    if making::short_work(wider(room, wider(left_count, right_count)), work) {
-        return SHORT;
-    }
-    0
+    refuse_if(table::over_limit(n, left_count), RefusalKind::Limit, 0)?;
+    refuse_if(table::over_limit(n, right_count), RefusalKind::Limit, 0)?;
+    refuse_if(making::over_room(room), RefusalKind::Limit, 0)?;
+    refuse_if(table::too_short(left_count, left), RefusalKind::Short, 0)?;
+    refuse_if(table::too_short(right_count, right), RefusalKind::Short, 0)?;
+    refuse_if(making::short_output(room, out), RefusalKind::Short, 0)?;
+    let widest = room.max(left_count.max(right_count));
+    refuse_if(making::short_work(widest, work), RefusalKind::Short, 0)
+}
+
+// The tests of two tables, a room, an output and work: the right table's root.
+fn pair_root(
+    n: u16,
+    left_count: usize,
+    left: &[u32],
+    right_count: usize,
+    right: &[u32],
+    room: usize,
+    out: &[u32],
+    work: &[u32],
+) -> Result<BddPointer, Refusal>
+    ensures { reply_of pointer result ≡ replied (judged (pair_findings n left_count left.now right_count right.now room out.now work.now) (root_of right_count)) }
+{
+    check_pair_sizes(n, left_count, left, right_count, right, room, out, work)?;
+    table::ordered_root(n, left_count, left)?;
+    table::ordered_root(n, right_count, right)
 }
 
 // Two tables, a room, an output and work. A pass gives the right table's root.
@@ -153,13 +175,5 @@ pub fn admit_two_tables(
 ) -> Inspection
     ensures { inspection_reply result ≡ replied (judged (pair_findings n left_count left.now right_count right.now room out.now work.now) (root_of right_count)) }
 {
-    let number = pair_size_refusal(n, left_count, left, right_count, right, room, out, work);
-    if number != 0 {
-        return table::refused(number);
-    }
-    let first = table::ordered_root(n, left_count, left);
-    let Inspection::Sound(_) = first else {
-        return first;
-    };
-    table::ordered_root(n, right_count, right)
+    Inspection::from(pair_root(n, left_count, left, right_count, right, room, out, work))
 }

@@ -54,12 +54,12 @@ carried-end n s o g a h =
 module _ (w out : List ℕ) (g : Goal) (k m a : ℕ) (r : Carrying w out g k m a) where
   -- a mark is at most 60
   pub mark-small : (node_at w a).mark ≤ 60
-  mark-small = omega (arith, mark-le g.n (nodes k w) r.pool.ordered a (omega (arith, r.lies, length-nodes k w)), ap (λ (x : Node). x.mark) (at-nodes k w a r.lies), r.marks)
+  mark-small = omega (arith, mark-le g.run.n (nodes k w) r.pool.ordered a (omega (arith, r.lies, length-nodes k w)), ap (λ (x : Node). x.mark) (at-nodes k w a r.lies), r.marks)
 
   pub carry-end : a < 2 → Carried w w out out g k m a a m
-  carry-end h = record { holds = record { is = carried-end g.n (nodes k w) (nodes m out) r.pool a h; fits = r.holds }; pool = refl; known = r.known; origin = r.origin; above = λ y h. refl; young = r.young }
+  carry-end h = record { holds = record { is = carried-end g.run.n (nodes k w) (nodes m out) r.pool a h; fits = r.holds }; pool = refl; known = r.known; origin = r.origin; above = λ y h. refl; young = r.young }
 
-  pub carry-memo : (e : ℕ) → word w g.cap a / memo_base ≡ g.stamp → e ≡ word w g.cap a % memo_base → Carried w w out out g k m a e m
+  pub carry-memo : (e : ℕ) → word w g.run.cap a / memo_base ≡ g.run.stamp → e ≡ word w g.run.cap a % memo_base → Carried w w out out g k m a e m
   carry-memo e st ee = record {
     holds = record { is = (r.known a (omega (arith, r.lies, r.fits)) st).1 ∙ ap (λ (x : ℕ). (nodes m out, x)) (sym ee); fits = r.holds };
     pool = refl;
@@ -70,7 +70,7 @@ module _ (w out : List ℕ) (g : Goal) (k m a : ℕ) (r : Carrying w out g k m a
   }
 
 -- an inner node
-module _ (w out : List ℕ) (g : Goal) (k m a : ℕ) (r : Carrying w out g k m a) (two : 2 ≤ a) (v x y : ℕ) (ev : v ≡ (node_at w a).mark) (ex : x ≡ (node_at w a).low) (ey : y ≡ (node_at w a).high) (nk : word w g.cap a / memo_base ≡ g.stamp → ⊥) where
+module _ (w out : List ℕ) (g : Goal) (k m a : ℕ) (r : Carrying w out g k m a) (two : 2 ≤ a) (v x y : ℕ) (ev : v ≡ (node_at w a).mark) (ex : x ≡ (node_at w a).low) (ey : y ≡ (node_at w a).high) (nk : word w g.run.cap a / memo_base ≡ g.run.stamp → ⊥) where
   abbrev s : Table
   s = nodes k w
 
@@ -78,7 +78,7 @@ module _ (w out : List ℕ) (g : Goal) (k m a : ℕ) (r : Carrying w out g k m a
   o = nodes m out
 
   abbrev n : ℕ
-  n = g.n
+  n = g.run.n
 
   a_in : a < length s
   a_in = omega (arith, r.lies, length-nodes k w)
@@ -208,7 +208,7 @@ module _ (w out : List ℕ) (g : Goal) (k m a : ℕ) (r : Carrying w out g k m a
       pool₂ = f.pool ∙ u.pool
 
       -- the memo's word for a is as it was
-      still : word w₂ g.cap a ≡ word w g.cap a
+      still : word w₂ g.run.cap a ≡ word w g.run.cap a
       still = f.above a y_lt ∙ u.above a x_lt
 
       lo_means : tree_of (n - suc v) o₂ (suc v) p ≡ lo_tree
@@ -249,7 +249,7 @@ module _ (w out : List ℕ) (g : Goal) (k m a : ℕ) (r : Carrying w out g k m a
           let same : c.x ≡ a = alone n s r.pool (suc (n - suc v)) v c.x a (omega (arith, v_lt))
           (record { lies = omega (arith, c.lies, length-nodes k w); fits = omega arith }) (record { lies = a_in; fits = omega (arith, mark-is) })
           (sym b.means ∙ i_tree i e ∙ sym a_tree) in
-          nk (ap (λ z. z / memo_base) (sym still) ∙ ap (λ z. word w₂ g.cap z / memo_base) (sym same) ∙ c.stamp)
+          nk (ap (λ z. z / memo_base) (sym still) ∙ ap (λ z. word w₂ g.run.cap z / memo_base) (sym same) ∙ c.stamp)
 
       mk-is : mk o₂ v p q ≡ pushed out₂ m₂ v p q
       mk-is = mk-other o₂ v p q apart ∙ go (grow-cases o₂ (node v p q))
@@ -261,7 +261,7 @@ module _ (w out : List ℕ) (g : Goal) (k m a : ℕ) (r : Carrying w out g k m a
       pub full_node : g.room < length (pushed out₂ m₂ v p q).0 → g.room < length (carried n s o a).0
       full_node h = rw (split₂, mk-is) h
 
-      pub slot_in : 3 * g.cap + a < length w₂
+      pub slot_in : 3 * g.run.cap + a < length w₂
       slot_in = omega (arith, r.lies, r.fits, r.long)
 
       module _ (out₃ : List ℕ) (e m₃ : ℕ) (h₃ : Holds (pushed out₂ m₂ v p q) g.room out₃ e m₃) where
@@ -300,12 +300,12 @@ module _ (w out : List ℕ) (g : Goal) (k m a : ℕ) (r : Carrying w out g k m a
         m₃_is : m₃ ≡ m₂ + 1
         m₃_is = omega (arith, ap length o₃_is, length-append o₂ (node v p q ∷ []), length-nodes m₃ out₃, length-nodes m₂ out₂)
 
-        came : (w₃ : List ℕ) → w₃ ≡ set w₂ (3 * g.cap + a) (word_of g.stamp e) → nodes k w₃ ≡ s → Origin w₃ out₃ g k m₃
+        came : (w₃ : List ℕ) → w₃ ≡ set w₂ (3 * g.run.cap + a) (word_of g.run.stamp e) → nodes k w₃ ≡ s → Origin w₃ out₃ g k m₃
         came w₃ q₃ pool₃ i ti lt = elim (dec_lt i m₂) [
           | yes was ↦
               let c : Source w₂ out₂ g k m₂ i = f.origin i ti was in
-              let ne : c.x ≢ a = λ z. nk (ap (λ d. d / memo_base) (sym still) ∙ ap (λ d. word w₂ g.cap d / memo_base) (sym z) ∙ c.stamp) in
-              let b : word w₃ g.cap c.x ≡ word w₂ g.cap c.x = ap (λ (d : List ℕ). word d g.cap c.x) q₃ ∙ get_or-set_other w₂ (3 * g.cap + a) (3 * g.cap + c.x) (word_of g.stamp e) 0 (λ d. ne (omega arith)) in
+              let ne : c.x ≢ a = λ z. nk (ap (λ d. d / memo_base) (sym still) ∙ ap (λ d. word w₂ g.run.cap d / memo_base) (sym z) ∙ c.stamp) in
+              let b : word w₃ g.run.cap c.x ≡ word w₂ g.run.cap c.x = ap (λ (d : List ℕ). word d g.run.cap c.x) q₃ ∙ get_or-set_other w₂ (3 * g.run.cap + a) (3 * g.run.cap + c.x) (word_of g.run.stamp e) 0 (λ d. ne (omega arith)) in
               record {
                 x = c.x;
                 lies = c.lies;
@@ -316,24 +316,24 @@ module _ (w out : List ℕ) (g : Goal) (k m a : ℕ) (r : Carrying w out g k m a
               }
           | no not-was ↦
               let z : i ≡ m₂ = omega (arith, m₃_is) in
-              let b : word w₃ g.cap a ≡ word_of g.stamp e = ap (λ (d : List ℕ). word d g.cap a) q₃ ∙ get_or-set_same w₂ (3 * g.cap + a) (word_of g.stamp e) 0 slot_in in
+              let b : word w₃ g.run.cap a ≡ word_of g.run.stamp e = ap (λ (d : List ℕ). word d g.run.cap a) q₃ ∙ get_or-set_same w₂ (3 * g.run.cap + a) (word_of g.run.stamp e) 0 slot_in in
               record {
                 x = a;
                 lies = r.lies;
-                stamp = ap (λ d. d / memo_base) b ∙ (let c : word_of g.stamp e / memo_base ≡ g.stamp = omega (arith, e_small) in c);
-                says = ap (λ d. d % memo_base) b ∙ (let c : word_of g.stamp e % memo_base ≡ i = omega (arith, e_small, new_is) in c);
+                stamp = ap (λ d. d / memo_base) b ∙ (let c : word_of g.run.stamp e / memo_base ≡ g.run.stamp = omega (arith, e_small) in c);
+                says = ap (λ d. d % memo_base) b ∙ (let c : word_of g.run.stamp e % memo_base ≡ i = omega (arith, e_small, new_is) in c);
                 mark = ap (λ (z : Table). (at z a).mark) pool₃ ∙ mark-is
                     ∙ sym (ap (λ (z : Table). (at z i).mark) o₃_is ∙ ap (λ (d : ℕ). (at (o₂ ++ (node v p q ∷ [])) d).mark) (z ∙ sym (length-nodes m₂ out₂)) ∙ ap (λ (z : Node). z.mark) (at_new o₂ (node v p q)));
               }
         ]
 
-        pub done : (w₃ : List ℕ) → w₃ ≡ set w₂ (3 * g.cap + a) (word_of g.stamp e) → Carried w w₃ out out₃ g k m a e m₃
+        pub done : (w₃ : List ℕ) → w₃ ≡ set w₂ (3 * g.run.cap + a) (word_of g.run.stamp e) → Carried w w₃ out out₃ g k m a e m₃
         done w₃ q₃ =
-            let pool₃ : nodes k w₃ ≡ s = keep-nodes g.cap g.stamp a (word_of g.stamp e) w₂ w₃ slot_in true k r.fits q₃ ∙ pool₂ in
+            let pool₃ : nodes k w₃ ≡ s = keep-nodes g.run.cap g.run.stamp a (word_of g.run.stamp e) w₂ w₃ slot_in true k r.fits q₃ ∙ pool₂ in
             record {
               holds = record { is = is₃; fits = h.fits };
               pool = pool₃;
-              known = λ i lt st. elim (keep-memo g.cap g.stamp a (word_of g.stamp e) w₂ w₃ slot_in true q₃ i) [
+              known = λ i lt st. elim (keep-memo g.run.cap g.run.stamp a (word_of g.run.stamp e) w₂ w₃ slot_in true q₃ i) [
                 | inl b ↦
                     let c = f.known i lt (ap (λ z. z / memo_base) (sym b) ∙ st) in (
                       c.0,
@@ -342,14 +342,14 @@ module _ (w out : List ℕ) (g : Goal) (k m a : ℕ) (r : Carrying w out g k m a
                 | inr b ↦ (
                   omega (arith, b.1, r.lies),
                   ap₂ (λ (z : Table) (i : ℕ). carried n z o₃ i) pool₃ b.1 ∙ again
-                      ∙ ap (λ (z : ℕ). (o₃, z)) ((let c : e ≡ word_of g.stamp e % memo_base = omega (arith, e_small) in c) ∙ ap (λ z. z % memo_base) (sym b.2)),
+                      ∙ ap (λ (z : ℕ). (o₃, z)) ((let c : e ≡ word_of g.run.stamp e % memo_base = omega (arith, e_small) in c) ∙ ap (λ z. z % memo_base) (sym b.2)),
                 )
               ];
               origin = came w₃ q₃ pool₃;
-              above = λ i lt. ap (λ (d : List ℕ). word d g.cap i) q₃ ∙ get_or-set_other w₂ (3 * g.cap + a) (3 * g.cap + i) (word_of g.stamp e) 0 (λ d. omega arith)
+              above = λ i lt. ap (λ (d : List ℕ). word d g.run.cap i) q₃ ∙ get_or-set_other w₂ (3 * g.run.cap + a) (3 * g.run.cap + i) (word_of g.run.stamp e) 0 (λ d. omega arith)
                   ∙ f.above i (omega (arith, y_lt)) ∙ u.above i (omega (arith, x_lt));
-              young = λ i lt. elim (keep-memo g.cap g.stamp a (word_of g.stamp e) w₂ w₃ slot_in true q₃ i) [
-                | inl b ↦ subst (λ z. z / memo_base ≤ g.stamp) (sym b) (f.young i lt)
-                | inr b ↦ subst (λ z. z / memo_base ≤ g.stamp) (sym b.2) (omega (arith, e_small))
+              young = λ i lt. elim (keep-memo g.run.cap g.run.stamp a (word_of g.run.stamp e) w₂ w₃ slot_in true q₃ i) [
+                | inl b ↦ subst (λ z. z / memo_base ≤ g.run.stamp) (sym b) (f.young i lt)
+                | inr b ↦ subst (λ z. z / memo_base ≤ g.run.stamp) (sym b.2) (omega (arith, e_small))
               ];
             }

@@ -1,4 +1,3 @@
 pub mod CarryLaws
-pub mod PlainLaws
 pub mod AddLaws
 pub mod BuildLaws

@@ -3,22 +3,18 @@
 #![tactic(auto)]
 
 ghost use Rattle.std.specs.Prelude.{◌≡◌, ◌+◌, ◌*◌, ◌≤◌, length};
-ghost use Rattle.refusal.specs.Limits.{max_marks};
 ghost use Rattle.cube.specs.Cube.{entry_at};
-ghost use Rattle.build.specs.Build.{Carrying, Carries, Copied, Compacting, Compacts, Adding, Adds, Exporting, Exported, Within, Given, Building, Builds};
+ghost use Rattle.entries.specs.Entries.{Given};
+ghost use Rattle.build.specs.Build.{Carrying, Carries, Copied, Compacting, Compacts, Adding, Adds, Exporting, Exported, Building, Builds};
 
-use making::Tabled;
-use pool::{Found, Noted};
-use put::Job;
+use entries::{Entries, Form};
+use put::{Job, Run};
 use table::BddPointer;
-use valuation::BddPartialValuation;
 
-// Where a node of the pool is carried: the marks, the memo's number for it, the pool's and the output's node rooms.
+// A run that carries a node of the pool, and the output's node room.
 #[derive(Clone, Copy)]
 pub struct Goal {
-    pub n: u16,
-    pub stamp: u32,
-    pub cap: u32,
+    pub run: Run,
     pub room: u32,
 }
 
@@ -30,34 +26,27 @@ pub fn carry(
     count: u32,
     made: u32,
     p: BddPointer,
-) -> Noted
+) -> Option<(BddPointer, u32)>
     requires { Carrying work.old out.old goal count made p.0 }
     ensures { Carries work.old work.new out.old out.new goal count made p.0 result }
 {
     if p.0 < 2 {
-        return Noted::Node(p, made);
+        return Some((p, made));
     }
-    let known = put::recall(&*work, goal.cap, goal.stamp, p);
-    if let Found::At(r) = known {
-        return Noted::Node(r, made);
+    if let Some(r) = put::recall(&*work, goal.run, p) {
+        return Some((r, made));
     }
     let variable = table::var_of(&*work, p);
     let x = table::low_link_of(&*work, p);
     let y = table::high_link_of(&*work, p);
-    let lo = carry(work, out, goal, count, made, x);
-    let Noted::Node(low, lows) = lo else {
-        return Noted::Full;
+    let (low, lows) = carry(work, out, goal, count, made, x)?;
+    let (high, highs) = carry(work, out, goal, count, lows, y)?;
+    // By `?` the pair's two words would be stored one by one and read back as one: an eighth slower, measured.
+    let Some((r, more)) = pool::push_node(out, goal.room, highs, variable, low, high) else {
+        return None;
     };
-    let hi = carry(work, out, goal, count, lows, y);
-    let Noted::Node(high, highs) = hi else {
-        return Noted::Full;
-    };
-    let noted = pool::push_node(out, goal.room, highs, variable, low, high);
-    let Noted::Node(r, more) = noted else {
-        return Noted::Full;
-    };
-    put::keep(work, goal.cap, goal.stamp, true, p, r);
-    Noted::Node(r, more)
+    put::keep(work, goal.run, true, p, r);
+    Some((r, more))
 }
 
 // The first nodes of a table to the front of work.
@@ -66,36 +55,28 @@ pub fn copy_nodes(work: &mut [u32], bdd: &[u32], count: u32)
     ensures { Copied work.old work.new bdd.now (3 * count) }
 {
     let end = 3 * (count as usize);
-    let mut i: usize = 0;
-    while i < end {
-        work[i] = bdd[i];
-        i += 1;
-    }
+    work[..end].copy_from_slice(&bdd[..end]);
 }
 
 // The pool brought to the table of its node p: the nodes of earlier steps go.
-pub fn compact(work: &mut [u32], out: &mut [u32], goal: Goal, count: u32, p: BddPointer) -> Noted
+pub fn compact(
+    work: &mut [u32],
+    out: &mut [u32],
+    goal: Goal,
+    count: u32,
+    p: BddPointer,
+) -> Option<(BddPointer, u32)>
     requires { Compacting work.old out.old goal count p.0 }
     ensures { Compacts work.old work.new goal count p.0 result }
 {
-    making::put_constants(out, goal.n);
-    let noted = carry(work, out, goal, count, 2, p);
-    let Noted::Node(r, made) = noted else {
-        return Noted::Full;
-    };
+    making::put_constants(out, goal.run.n);
+    let (r, made) = carry(work, out, goal, count, 2, p)?;
     copy_nodes(work, &*out, made);
-    chain::index_nodes(work, goal.cap, made);
-    Noted::Node(r, made)
+    chain::index_nodes(work, goal.run.cap, made);
+    Some((r, made))
 }
 
-// The run's node and the pool's count; or the run's own table has no room.
-#[derive(Clone, Copy)]
-pub enum Grown {
-    At(BddPointer, u32),
-    Over,
-}
-
-// One clause more: the run's node in the pool, which holds at most room nodes again; Over exactly if the run's own table has more.
+// One clause more: the run's node in the pool, which holds at most room nodes again, and the pool's count; None exactly if the run's own table has more.
 // Only a pool over room is brought to its root's table: along chains, nodes that are dead cost less than bringing it there earlier.
 pub fn add_clause(
     work: &mut [u32],
@@ -104,28 +85,20 @@ pub fn add_clause(
     room: u32,
     count: u32,
     p: BddPointer,
-) -> Grown
+) -> Option<(BddPointer, u32)>
     requires { Adding work.old out.old job room count p.0 }
     ensures { Adds work.old work.new job room count p.0 result }
 {
-    let noted = put::put(work, job, 0, count, p, false);
-    let Noted::Node(r, more) = noted else {
-        return Grown::Over;
-    };
+    let (r, more) = put::put(work, job, 0, count, p, false)?;
     if more <= room {
-        return Grown::At(r, more);
+        return Some((r, more));
     }
-    let goal = Goal {
-        n: job.n,
-        stamp: job.stamp + 1,
-        cap: job.cap,
-        room,
+    let run = Run {
+        n: job.run.n,
+        stamp: job.run.stamp + 1,
+        cap: job.run.cap,
     };
-    let own = compact(work, out, goal, more, r);
-    let Noted::Node(root, nodes) = own else {
-        return Grown::Over;
-    };
-    Grown::At(root, nodes)
+    compact(work, out, Goal { run, room }, more, r)
 }
 
 // The table of the pool's node p in out, and its count: false is one node.
@@ -133,10 +106,9 @@ pub fn export(work: &mut [u32], out: &mut [u32], goal: Goal, count: u32, p: BddP
     requires { Exporting work.old out.old goal count p.0 }
     ensures { Exported work.old out.new goal count p.0 result }
 {
-    making::put_constants(out, goal.n);
-    let noted = carry(work, out, goal, count, 2, p);
-    let Noted::Node(r, made) = noted else {
-        return 0;
+    making::put_constants(out, goal.run.n);
+    let Some((r, made)) = carry(work, out, goal, count, 2, p) else {
+        unreachable!()
     };
     if r.0 == 0 {
         return 1;
@@ -144,68 +116,46 @@ pub fn export(work: &mut [u32], out: &mut [u32], goal: Goal, count: u32, p: BddP
     made
 }
 
-// Entry i of a list: a clause of two words, or a case as a clause that fixes every mark.
-pub fn clause_at(n: u16, list: &[u64], cases: bool, i: u32) -> BddPartialValuation
-    requires { (n ≤ max_marks) × Within cases i list.now }
-    ensures { (result.fixed ≡ (entry_at cases n list.now i).fixed) × (result.values ≡ (entry_at cases n list.now i).values) }
-{
-    if cases {
-        return BddPartialValuation {
-            fixed: (1u64 << n) - 1,
-            values: list[i as usize],
-        };
-    }
-    let at = 2 * (i as usize);
-    BddPartialValuation {
-        fixed: list[at],
-        values: list[at + 1],
-    }
-}
-
-// The canonical table of a list in out: of a DNF for term 1, of a CNF for term 0.
-pub fn build(
+// The count of a list's canonical table, which is in out; or the length of the shortest opening run whose table has no room.
+pub fn build<E: Entries>(
     n: u16,
     list: &[u64],
-    cases: bool,
     count: u32,
-    term: u32,
+    form: Form,
     room: u32,
     out: &mut [u32],
     work: &mut [u32],
-) -> Tabled
-    requires { Building n (entry_at cases n list.now) count term room out.old work.old × Given cases count list.now }
-    ensures { Builds n (entry_at cases n list.now) count term room out.new result }
+) -> Result<usize, u64>
+    requires { Building n (entry_at E.cases n list.now) count room out.old work.old × Given E.cases count list.now }
+    ensures { Builds n (entry_at E.cases n list.now) count form room out.new result }
 {
     let cap = 2 * room;
     chain::clear(work, 3 * (cap as usize), 5 * (cap as usize));
     making::put_constants(work, n);
-    let mut root = BddPointer(1 - term);
+    let mut root = form.empty();
     let mut held: u32 = 2;
-    let mut i: u32 = 0;
-    while i < count {
-        let clause = clause_at(n, list, cases, i);
-        let job = Job {
+    for i in 0..count {
+        let run = Run {
             n,
-            fixed: clause.fixed,
-            values: clause.values,
-            term,
             stamp: 2 * i + 1,
             cap,
         };
-        let grown = add_clause(work, out, job, room, held, root);
-        let Grown::At(p, more) = grown else {
-            return Tabled::Over((i + 1) as u64);
+        let job = Job {
+            run,
+            clause: E::entry_at(n, list, i as usize),
+            form,
+        };
+        let Some((p, more)) = add_clause(work, out, job, room, held, root) else {
+            return Err((i + 1) as u64);
         };
         root = p;
         held = more;
-        i += 1;
     }
-    let goal = Goal {
+    let run = Run {
         n,
         stamp: 2 * count + 1,
         cap,
-        room,
     };
-    let nodes = export(work, out, goal, held, root);
-    Tabled::Count(nodes as usize)
+    let nodes = export(work, out, Goal { run, room }, held, root);
+    Ok(nodes as usize)
 }

@@ -1,5 +1,5 @@
 -- What each builder answers, for any input at all: its findings, its opening runs, and the function of its list.
-use Rattle.std.specs.Prelude.{Bool, true, false, cond, not, ◌||◌, List, ◌∷◌, ℕ, zero, suc, ◌+◌, ◌*◌, eqb, ltb, length, get_or}
+use Rattle.std.specs.Prelude.{Bool, true, false, not, ◌||◌, List, ◌∷◌, ℕ, zero, suc, ◌+◌, ◌*◌, eqb, ltb, length, get_or}
 use Rattle.theory.specs.Tree.{Tree}
 use Rattle.theory.specs.Table.{canon}
 use Rattle.theory.specs.Clause.{Clause, malformed}
@@ -47,13 +47,6 @@ list_findings cases n count list room out work =
     ∷ finding SHORT (short_list cases count list) 0
     ∷ finding (entry_number cases) (ltb (first_bad_entry cases n count list) count) (first_bad_entry cases n count list)
     ∷ room_findings room out room work
-
--- LIMIT, then SHORT, of the sizes alone; 0 where neither is due
-unfoldable pub list_sizes : Bool → ℕ → ℕ → List ℕ → ℕ → List ℕ → List ℕ → ℕ
-list_sizes cases n count list room out work =
-    cond (over_list n count) LIMIT
-    (cond (over_room room) LIMIT
-    (cond (short_list cases count list) SHORT (cond (short_output room out) SHORT (cond (short_work room work) SHORT 0))))
 
 -- the function of the opening run of k entries: of a DNF for b = true, of a CNF for b = false
 abbrev pub run_means : Bool → ℕ → (ℕ → Clause) → ℕ → Tree

@@ -1,14 +1,11 @@
 -- What carrying a table into another asks and ensures.
-use Rattle.std.specs.Prelude.{◌≡◌, ◌≢◌, ◌⊎◌, Bool, true, false, not, List, ℕ, ◌+◌, ◌*◌, ◌-◌, ◌≤◌, ◌<◌, length, get_or, set}
-use Rattle.theory.specs.Table.{Table, at, child_of, truth, num, mk, walk, Ordered, Good}
+use Rattle.std.specs.Prelude.{◌≡◌, ◌≢◌, ◌⊎◌, Bool, true, false, not, Option, Some, None, List, ℕ, ◌*◌, ◌-◌, ◌≤◌, ◌<◌, length, get_or}
+use Rattle.theory.specs.Table.{Table, at, child_of, truth, num, walk, Ordered, Good}
 use Rattle.theory.specs.Words.{stride, node_at, nodes}
 use Rattle.theory.proofs.Again.{turn}
 use Rattle.theory.proofs.Turned.{turned}
 use Rattle.refusal.specs.Limits.{max_marks, max_nodes}
-use Rattle.pool.specs.declared.Found.{Found}
-use Rattle.pool.specs.declared.Found.TheVariants.{At, Nowhere}
-use Rattle.pool.specs.declared.Noted.{Noted}
-use Rattle.pool.specs.declared.Noted.TheVariants.{Node as Got, Full}
+use Rattle.table.specs.declared.BddPointer.{BddPointer}
 use Rattle.pool.specs.Pool.{Pushing, Holds}
 use Rattle.carry.specs.declared.Way.{Way}
 use Rattle.carry.specs.declared.Cut.{Cut}
@@ -20,14 +17,18 @@ abbrev pub flip : Bool → Bool → Bool
 flip true b = not b
 flip false b = b
 
+-- the table as it is, over n marks into room nodes
+abbrev pub plain : ℕ → ℕ → Way
+plain n room = record { exchange = false; n = n; room = room; variable = record { 0 = n }; value = false }
+
 -- node a of the table s, walked into o from its own level on
 abbrev pub carried : Way → Table → Table → ℕ → Table × ℕ
 carried w s o a = walk o (at s a).mark (turned w.variable.0 w.value (flip w.exchange) (w.n - (at s a).mark) s (at s a).mark a)
 
 -- a word of the memo: one more than the number, or 0
-abbrev pub Recalls : ℕ → Found → Type 0
-Recalls word (At r) = (word ≢ 0) × (r.0 ≡ word - 1)
-Recalls word Nowhere = word ≡ 0
+abbrev pub Recalls : ℕ → Option BddPointer → Type 0
+Recalls word (Some r) = (word ≢ 0) × (r.0 ≡ word - 1)
+Recalls word None = word ≡ 0
 
 -- what the memo knows of a node, the walk finds in the output as it is
 abbrev pub Known : List ℕ → Way → Table → Table → ℕ → Type 0
@@ -57,26 +58,30 @@ abbrev pub Splits : List ℕ → List ℕ → Way → ℕ → Step → Type 0
 Splits bdd memo w a (Done r) = Ends memo w a r.0
 Splits bdd memo w a (Split c) = Parts bdd w a c
 
--- a node made and kept
-pub record Finished (out out' memo memo' : List ℕ) (w : Way) (m a v p q r m' : ℕ) : Type 0 where
-  pub holds : Holds (mk (nodes m out) v p q) w.room out' r m'
-  pub kept : memo' ≡ set memo a (r + 1)
-
-abbrev pub Finishes : List ℕ → List ℕ → List ℕ → List ℕ → Way → ℕ → ℕ → ℕ → ℕ → ℕ → Noted → Type 0
-Finishes out out' memo memo' w m a v p q (Got r m') = Finished out out' memo memo' w m a v p q r.0 m'
-Finishes out out' memo memo' w m a v p q Full = w.room < length (mk (nodes m out) v p q).0
-
--- what the recursion asks: a good table of m nodes in the output, and a memo that is right about it
-pub record Carrying (bdd out memo : List ℕ) (w : Way) (k m a : ℕ) : Type 0 where
-  pub reading : Reading bdd memo w k a
+-- an ordered table of k nodes, a word of memo for each, and a good table of m nodes in the output
+pub record Begun (bdd out memo : List ℕ) (w : Way) (k m : ℕ) : Type 0 where
+  pub marks : w.n ≤ max_marks
+  pub few : k ≤ max_nodes
+  pub long : stride * k ≤ length bdd
+  pub wide : k ≤ length memo
+  pub ordered : Ordered w.n (nodes k bdd)
   pub pushing : Pushing out w.room m
   pub good : Good w.n (nodes m out)
+
+-- the same, with a memo that is right about the output
+pub record Ready (bdd out memo : List ℕ) (w : Way) (k m : ℕ) : Type 0 where
+  pub begun : Begun bdd out memo w k m
   pub known : Known memo w (nodes k bdd) (nodes m out) k
+
+-- node a of the table walked: its number, and the output with m' nodes; or no room for it
+abbrev pub Walks : List ℕ → List ℕ → List ℕ → Way → ℕ → ℕ → ℕ → ℕ → Option BddPointer → Type 0
+Walks bdd out out' w k m m' a (Some r) = carried w (nodes k bdd) (nodes m out) a ≡ (nodes m' out', r.0)
+Walks bdd out out' w k m m' a None = w.room < length (carried w (nodes k bdd) (nodes m out) a).0
 
 pub record Carried (bdd out out' memo' : List ℕ) (w : Way) (k m a r m' : ℕ) : Type 0 where
   pub holds : Holds (carried w (nodes k bdd) (nodes m out) a) w.room out' r m'
   pub known : Known memo' w (nodes k bdd) (nodes m' out') k
 
-abbrev pub Carries : List ℕ → List ℕ → List ℕ → List ℕ → Way → ℕ → ℕ → ℕ → Noted → Type 0
-Carries bdd out out' memo' w k m a (Got r m') = Carried bdd out out' memo' w k m a r.0 m'
-Carries bdd out out' memo' w k m a Full = w.room < length (carried w (nodes k bdd) (nodes m out) a).0
+abbrev pub Carries : List ℕ → List ℕ → List ℕ → List ℕ → Way → ℕ → ℕ → ℕ → Option (BddPointer × ℕ) → Type 0
+Carries bdd out out' memo' w k m a (Some (r, m')) = Carried bdd out out' memo' w k m a r.0 m'
+Carries bdd out out' memo' w k m a None = w.room < length (carried w (nodes k bdd) (nodes m out) a).0

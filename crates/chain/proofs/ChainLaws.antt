@@ -198,22 +198,6 @@ module _ (w : List ℕ) (n cap k v p q : ℕ) (r : Noding w n cap k v p q) (long
           chained = subst (λ u. Chained u cap k₁) (sym e) (subst (Chained _ cap) (sym more) (hung-chained w w₁ cap k c count-two push_lt (omega arith) kept same));
         }
 
--- ---- zeros
-pub zeroed-none : (w : List ℕ) (s : ℕ) → Zeroed w w s s
-zeroed-none w s = record { zero = λ i a b. absurd (let z : ⊥ = omega arith in z); front = λ i h. refl }
-
-pub zeroed-more : (w w' : List ℕ) (s i : ℕ) → s ≤ i → i < length w' → Zeroed w w' s i → Zeroed w (set w' i 0) s (i + 1)
-zeroed-more w w' s i le h c = record {
-  zero = λ j a b. elim (ℕ_discrete j i) [
-    | yes e ↦ ap (λ x. get_or (set w' i 0) x 0) e ∙ get_or-set_same w' i 0 0 h
-    | no e ↦ get_or-set_other w' i j 0 0 e ∙ c.zero j a (omega arith)
-  ];
-  front = λ j a. get_or-set_other w' i j 0 0 (λ e. omega arith) ∙ c.front j a;
-}
-
-pub zeroed-to : (w w' : List ℕ) (s i e : ℕ) → e ≤ i → Zeroed w w' s i → Zeroed w w' s e
-zeroed-to w w' s i e le c = record { zero = λ j a b. c.zero j a (omega arith); front = c.front }
-
 -- ---- the chains made anew
 pub chained-none : (w : List ℕ) (cap : ℕ) → ((h : ℕ) → h < cap → head_at w cap h ≡ 0) → Chained w cap 2
 chained-none w cap zero = record {
@@ -233,6 +217,3 @@ index-more w w₁ w₂ cap i two lt long x e = record {
   chained = subst (λ u. Chained u cap (i + 1)) (sym e) (hung-chained w₁ w₁ cap i x.chained two lt long (λ j a. refl) (λ j a. refl));
   front = λ j a. ap (λ u. get_or u j 0) e ∙ hung-front w₁ w₁ cap i x.chained two lt long (λ j a. refl) (λ j a. refl) j a ∙ x.front j a;
 }
-
-pub index-done : (w w₁ w₂ : List ℕ) (cap i k : ℕ) → i ≡ k → Zeroed w w₁ (4 * cap) (5 * cap) → Indexed w₁ w₂ cap i → Indexed w w₂ cap k
-index-done w w₁ w₂ cap i k e z x = record { chained = subst (Chained w₂ cap) e x.chained; front = λ j a. x.front j a ∙ z.front j a }

@@ -1,9 +1,8 @@
 -- Chains of the nodes that share a slot, and what their functions ensure.
-use Rattle.std.specs.Prelude.{◌≡◌, List, ℕ, ◌+◌, ◌*◌, ◌%◌, ◌<◌, ◌≤◌, length, get_or, set}
+use Rattle.std.specs.Prelude.{◌≡◌, Option, Some, None, List, ℕ, ◌+◌, ◌*◌, ◌%◌, ◌<◌, ◌≤◌, length, get_or, set}
 use Rattle.theory.specs.Table.{mk}
 use Rattle.theory.specs.Words.{node_at, nodes}
-use Rattle.pool.specs.declared.Noted.{Noted}
-use Rattle.pool.specs.declared.Noted.TheVariants.{Node as Got, Full}
+use Rattle.table.specs.declared.BddPointer.{BddPointer}
 use Rattle.pool.specs.Pool.{Holds}
 
 -- the slot of a node with mark v and links p and q
@@ -43,9 +42,9 @@ pub record Noded (w w' : List ℕ) (cap k v p q r k' : ℕ) : Type 0 where
   pub memo : (i : ℕ) → 3 * cap ≤ i → i < 4 * cap → get_or w' i 0 ≡ get_or w i 0
   pub chained : Chained w' cap k'
 
-abbrev pub Notes : List ℕ → List ℕ → ℕ → ℕ → ℕ → ℕ → ℕ → Noted → Type 0
-Notes w w' cap k v p q (Got r k') = Noded w w' cap k v p q r.0 k'
-Notes w w' cap k v p q Full = cap < length (mk (nodes k w) v p q).0
+abbrev pub Notes : List ℕ → List ℕ → ℕ → ℕ → ℕ → ℕ → ℕ → Option (BddPointer × ℕ) → Type 0
+Notes w w' cap k v p q (Some (r, k')) = Noded w w' cap k v p q r.0 k'
+Notes w w' cap k v p q None = cap < length (mk (nodes k w) v p q).0
 
 pub record Zeroed (w w' : List ℕ) (s e : ℕ) : Type 0 where
   pub zero : (i : ℕ) → s ≤ i → i < e → get_or w' i 0 ≡ 0

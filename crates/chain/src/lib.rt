@@ -1,4 +1,5 @@
 // Hash chains over the nodes of a pool: equal nodes are found by their slot. Inner.
+// The areas stay offsets in one slice: each step of a descent reads and writes all of them, and its callers would hand on four slices for one.
 // In work: the pool of cap nodes from 0 on, a memo that is not touched here from 3 * cap on, the chains' heads from 4 * cap on, the next nodes from 5 * cap on.
 #![tactic(auto)]
 
@@ -6,7 +7,6 @@ ghost use Rattle.std.specs.Prelude.{◌≡◌, ◌≢◌, ◌*◌, ◌<◌, ◌�
 ghost use Rattle.pool.specs.Pool.{Searched, Noding};
 ghost use Rattle.chain.specs.Chain.{slot_of, slot_at, hung, Chained, Zeroed, Notes, Indexed};
 
-use pool::{Found, Noted};
 use table::BddPointer;
 use valuation::BddVariable;
 
@@ -19,7 +19,7 @@ fn slot(cap: u32, mark: u32, low: BddPointer, high: BddPointer) -> usize
     (mixed % (cap as u64)) as usize
 }
 
-// The node with that mark and those links, along its chain, the latest node first.
+// The node with that mark and those links, along its chain, the latest node first. The links are followed: there is no index to count.
 fn find_node(
     work: &[u32],
     cap: u32,
@@ -27,19 +27,20 @@ fn find_node(
     variable: BddVariable,
     low: BddPointer,
     high: BddPointer,
-) -> Found
+) -> Option<BddPointer>
     requires { (6 * cap ≤ length work.now) × (0 < cap) × (count ≤ cap) × (low.0 ≢ high.0) × Chained work.now cap count }
     ensures { Searched work.now count variable.0 low.0 high.0 result }
 {
     let h = slot(cap, variable.0 as u32, low, high);
     let mut i = work[4 * (cap as usize) + h];
+    // How many steps there are, the links say.
     while i >= 2 {
         if table::same_node(work, BddPointer(i), variable, low, high) {
-            return Found::At(BddPointer(i));
+            return Some(BddPointer(i));
         }
         i = work[5 * (cap as usize) + (i as usize)];
     }
-    Found::Nowhere
+    None
 }
 
 // Node p comes to the front of its chain.
@@ -64,23 +65,19 @@ pub fn make_node(
     variable: BddVariable,
     low: BddPointer,
     high: BddPointer,
-) -> Noted
+) -> Option<(BddPointer, u32)>
     requires { Noding work.old n cap count variable.0 low.0 high.0 × (6 * cap ≤ length work.old) × Chained work.old cap count }
     ensures { Notes work.old work.new cap count variable.0 low.0 high.0 result }
 {
     if low.0 == high.0 {
-        return Noted::Node(low, count);
+        return Some((low, count));
     }
-    let found = find_node(&*work, cap, count, variable, low, high);
-    if let Found::At(p) = found {
-        return Noted::Node(p, count);
+    if let Some(p) = find_node(&*work, cap, count, variable, low, high) {
+        return Some((p, count));
     }
-    let noted = pool::push_node(work, cap, count, variable, low, high);
-    let Noted::Node(p, more) = noted else {
-        return Noted::Full;
-    };
+    let (p, more) = pool::push_node(work, cap, count, variable, low, high)?;
     link_node(work, cap, BddPointer(count));
-    Noted::Node(p, more)
+    Some((p, more))
 }
 
 // Zeros from start up to, not including, end.
@@ -88,11 +85,7 @@ pub fn clear(work: &mut [u32], start: usize, end: usize)
     requires { (start ≤ end) × (end ≤ length work.old) }
     ensures { Zeroed work.old work.new start end }
 {
-    let mut i = start;
-    while i < end {
-        work[i] = 0;
-        i += 1;
-    }
+    work[start..end].fill(0);
 }
 
 // The chains of a pool of that many nodes, whatever stood in their words.
@@ -101,9 +94,7 @@ pub fn index_nodes(work: &mut [u32], cap: u32, count: u32)
     ensures { Indexed work.old work.new cap count }
 {
     clear(work, 4 * (cap as usize), 5 * (cap as usize));
-    let mut i: u32 = 2;
-    while i < count {
+    for i in 2..count {
         link_node(work, cap, BddPointer(i));
-        i += 1;
     }
 }

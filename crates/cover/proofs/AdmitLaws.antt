@@ -6,21 +6,21 @@ use Prim.Native.Nat.{ℕ, ◌*◌, ◌-◌, ◌<◌, ◌≤◌, max}
 use native.Mathlib.Omega.{arith}
 use lib.Dec.{ltb}
 use lib.ListN.{length}
-use borrow.Author.Tests.{ltb-false, lt-ltb, le-ltb}
+use borrow.Author.Tests.{ltb-false}
 use Rattle.theory.specs.Words.{stride}
 use Rattle.refusal.specs.Number.{order, LIMIT, SHORT, CLAUSE, TABLE}
 use Rattle.refusal.specs.Limits.{max_nodes, plain_work}
 use Rattle.refusal.specs.Buffers.{zeroing}
-use Rattle.refusal.specs.Verdict.{Verdict, refused, first_of, tried, judged, replied, refused_with, gives}
+use Rattle.refusal.specs.Verdict.{Verdict, refused, first_of, tried, judged, replied, gives}
 use Rattle.refusal.proofs.Judged.{Clean, Quiet, passes}
 use Rattle.refusal.proofs.Firsts.{first-before}
-use Rattle.table.specs.Inspection.{over_limit, too_short, first_bad, root_of, roots}
-use Rattle.table.proofs.InspectLaws.{or_false, within, long}
+use Rattle.table.specs.Inspection.{over_limit, too_short, first_bad, root_of, SoundTable}
+use Rattle.table.proofs.InspectLaws.{or_false, within}
 use Rattle.table.proofs.AdmissionLaws.{sound-table}
 use Rattle.making.specs.Room.{over_room, short_work}
 use Rattle.making.proofs.RoomLaws.{Roomy, roomy, work_long}
 use Rattle.builders.specs.Builders.{over_list, short_list, bad_entry, first_bad_entry}
-use Rattle.builders.proofs.ListLaws.{Listed, listed, list-long, mask}
+use Rattle.builders.proofs.ListLaws.{Listed, listed, list_long, mask}
 use Rattle.cover.specs.Cover.{over_cover, short_cover, Within, cover_findings}
 use Rattle.cover.specs.Compare.{Covering}
 
@@ -53,7 +53,7 @@ unfolding short_cover
 sized count words clauses list room work e =
     let a : (false ≡ too_short count words || short_list false clauses list) × (false ≡ short_work (max room count) work) = or_false _ _ e in
     let b : (false ≡ too_short count words) × (false ≡ short_list false clauses list) = or_false _ _ a.0 in
-    record { table = b.0; list-given = list-long false clauses list b.1; memory = work_long (max room count) work a.1 }
+    record { table = b.0; list-given = list_long false clauses list b.1; memory = work_long (max room count) work a.1 }
 
 -- the order of checking
 module _ (n count : ℕ) (words : List ℕ) (clauses : ℕ) (list : List ℕ) (room : ℕ) (work : List ℕ) where
@@ -74,43 +74,26 @@ module _ (n count : ℕ) (words : List ℕ) (clauses : ℕ) (list : List ℕ) (r
   unfolding Quiet zeroing
   cover_quiet = (refl, (refl, (refl, (refl, tt))))
 
-  pub limit-refuses : true ≡ over_cover n count clauses room → refused_with LIMIT 0 ≡ replied (judged (cover_findings n count words clauses list room work) (root_of count))
-  unfolding replied
-  limit-refuses e = rw (row (root_of count), ← e)
-
-  module _ (in-limits : false ≡ over_cover n count clauses room) where
-    pub short-refuses : true ≡ short_cover count words clauses list room work → refused_with SHORT 0 ≡ replied (judged (cover_findings n count words clauses list room work) (root_of count))
-    unfolding replied
-    short-refuses e = rw (row (root_of count), ← in-limits, ← e)
-
-    module _ (long-enough : false ≡ short_cover count words clauses list room work) (i : ℕ) (is : i ≡ bad) where
-      pub clause-refuses : i < clauses → refused_with CLAUSE i ≡ replied (judged (cover_findings n count words clauses list room work) (root_of count))
-      unfolding replied
-      clause-refuses h = rw (row (root_of count), ← in-limits, ← long-enough, lt-ltb bad clauses (omega (arith, is))) (ap (refused_with CLAUSE) is)
-
-      pub table-decides : (i < clauses → ⊥) → replied (roots n count words) ≡ replied (judged (cover_findings n count words clauses list room work) (root_of count))
-      unfolding judged tried order first_of
-      table-decides h = rw (← in-limits, ← long-enough, le-ltb bad clauses (omega (arith, is)))
-
   -- admitted
   pub cover_covering : Clean (judged (cover_findings n count words clauses list room work)) → (root : ℕ) → root ≡ count - 1
-      → (memory : List ℕ) → stride * max_nodes ≤ length memory → Covering n count words root clauses list room memory work
-  cover_covering clean root last memory wide =
+      → SoundTable n count words root × ((memory : List ℕ) → stride * max_nodes ≤ length memory → Covering n count clauses list room memory work)
+  cover_covering clean root last =
       let p₁ : (over_cover n count clauses room ≡ false) × (gives ((count - 1) ∷ []) ≡ replied _) = passes _ _ _ _ _ _ answers in
       let p₂ : (short_cover count words clauses list room work ≡ false) × (gives ((count - 1) ∷ []) ≡ replied _) = passes _ _ _ _ _ _ p₁.1 in
       let p₃ : (ltb bad clauses ≡ false) × (gives ((count - 1) ∷ []) ≡ replied _) = passes _ _ _ _ _ _ p₂.1 in
       let l : Limited n count clauses room = limited n count clauses room (sym p₁.0) in
-      let z : Sized count words clauses list room work = sized count words clauses list room work (sym p₂.0) in
-      record {
-        table = sound-table n count words root l.table z.table (passes _ _ _ _ _ _ p₃.1).0 last;
-        listed = l.list.few;
-        given = z.list-given;
-        masks = λ i h. mask false n list i (formed i h (ltb-false bad clauses p₃.0));
-        some = l.rooms.some;
-        few = l.rooms.few;
-        wide = wide;
-        long = z.memory;
-      }
+      let z : Sized count words clauses list room work = sized count words clauses list room work (sym p₂.0) in (
+        sound-table n count words root l.table z.table (passes _ _ _ _ _ _ p₃.1).0 last,
+        λ memory wide. record {
+          listed = l.list.few;
+          given = z.list-given;
+          masks = λ i h. mask false n list i (formed i h (ltb-false bad clauses p₃.0));
+          some = l.rooms.some;
+          few = l.rooms.few;
+          wide = wide;
+          long = z.memory;
+        },
+      )
     where
       answers : gives ((count - 1) ∷ []) ≡ replied (tests (root_of count))
       answers = unfold replied in sym (ap replied (sym (row (root_of count)) ∙ clean (root_of count)))

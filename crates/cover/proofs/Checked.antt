@@ -2,7 +2,7 @@
 use mathlib.Core.Path.{◌≡◌, refl, sym, ap, subst, ◌∙◌}
 use mathlib.Core.Logic.{◌↔◌, ◌⊎◌, inl, inr}
 use mathlib.Core.Bool.{Bool, true, false, cond}
-use mathlib.Core.List.{List, [], ◌∷◌}
+use mathlib.Core.List.{List}
 use Prim.Native.Nat.{ℕ, ◌^◌, ◌<◌, ◌≤◌}
 use native.Mathlib.Omega.{arith}
 use lib.ListN.{length}
@@ -13,40 +13,31 @@ use Rattle.theory.proofs.Cases.{look-tabulate}
 use Rattle.theory.proofs.Small.{meaning-deep}
 use Rattle.theory.proofs.Support.{same_equal}
 use Rattle.refusal.specs.Number.{NODES}
-use Rattle.refusal.specs.Verdict.{Finding, Verdict, refused, answered, judged, Reply, gives}
+use Rattle.refusal.specs.Verdict.{Finding, Verdict, refused, answered, judged}
 use Rattle.refusal.proofs.Judged.{Clean, judged-answer, not-answered}
-use Rattle.refusal.proofs.Single.{OneToOne, Single, single, no-values, refusal-single}
+use Rattle.refusal.proofs.Single.{OneToOne, Single, single, reply-one}
 use Rattle.table.specs.Case.{table_says}
 use Rattle.making.specs.Made.{table_answer}
 use Rattle.cube.specs.Cube.{dnf, clause_at, opening}
 use Rattle.cube.proofs.Runs.{means-deep}
 use Rattle.builders.specs.Builders.{run_means, shortest_over}
 use Rattle.builders.proofs.Built.{NoRoom, build-is, refused_none, none-refused}
-use Rattle.cover.specs.declared.Covered.TheVariants.{Agrees, Differs, Refused}
-use Rattle.cover.specs.Cover.{covered_reply, cover_findings, first_differing, agreement, difference, cover_answer, checks_cover}
+use Rattle.refusal.specs.Told.{reply_of}
+use Rattle.cover.specs.declared.Cover.{Cover}
+use Rattle.cover.specs.declared.Cover.TheVariants.{Agrees, Differs}
+use Rattle.cover.specs.Cover.{cover_words, cover_findings, first_differing, agreement, difference, cover_answer, checks_cover}
 use Rattle.cover.proofs.FirstLaws.{First, first_one, first-is, first-same}
 use Rattle.cover.proofs.CoverLaws.{over_runs, covers-is}
 
-one-not-two : (a b d : ℕ) → gives (a ∷ []) ≡ gives (b ∷ d ∷ []) → ⊥
-one-not-two a b d e =
-    let z : ◌≡◌ {A = List ℕ} (a ∷ []) (b ∷ d ∷ []) = ap (λ (x : Reply). x.values) e in
-    omega (arith, ap length z)
+-- different answers have different words
+pub cover-apart : (x y : Cover) → cover_words x ≡ cover_words y → x ≡ y
+cover-apart Agrees Agrees e = refl
+cover-apart Agrees (Differs d) e = absurd (omega (arith, ap length e))
+cover-apart (Differs c) Agrees e = absurd (omega (arith, ap length e))
+cover-apart (Differs c) (Differs d) e = let is : c ≡ d = cc in ap Differs is
 
--- different answers have different replies
-pub covered_one : OneToOne covered_reply
-unfolding covered_reply
-covered_one Agrees Agrees e = refl
-covered_one Agrees (Differs d) e = absurd (one-not-two 0 1 d e)
-covered_one Agrees (Refused s) e = no-values s _ _ (sym e)
-covered_one (Differs c) Agrees e = absurd (one-not-two 0 1 c (sym e))
-covered_one (Differs c) (Differs d) e =
-    let z : ◌≡◌ {A = List ℕ} (1 ∷ c ∷ []) (1 ∷ d ∷ []) = ap (λ (x : Reply). x.values) e in
-    let is : c ≡ d = cc in
-    ap Differs is
-covered_one (Differs c) (Refused s) e = no-values s _ _ (sym e)
-covered_one (Refused r) Agrees e = no-values r _ _ e
-covered_one (Refused r) (Differs d) e = no-values r _ _ e
-covered_one (Refused r) (Refused s) e = ap Refused (refusal-single r s e)
+pub cover_one : OneToOne (reply_of cover_words)
+cover_one = reply-one cover_words cover-apart
 
 -- ---- two functions compared
 not-both : (c : ℕ) → agreement ≡ difference c → ⊥
@@ -173,5 +164,5 @@ module _ (n count : ℕ) (words : List ℕ) (clauses : ℕ) (list : List ℕ) (r
         (sym (build-is fs true n clauses (clause_at list) room clean) ∙ none-refused fs true n clauses (clause_at list) room clean k h no_room)
 
   -- for any input at all, one possible return value; the work is given by an equation
-  pub check_cover-single : Single covered_reply verdict
-  check_cover-single = single covered_reply covered_one verdict
+  pub check_cover-single : Single (reply_of cover_words) verdict
+  check_cover-single = single (reply_of cover_words) cover_one verdict

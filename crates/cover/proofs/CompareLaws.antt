@@ -6,7 +6,7 @@ use mathlib.Core.List.{List, [], ◌∷◌, ◌++◌}
 use Prim.Native.Nat.{ℕ, zero, suc, ◌+◌, ◌*◌, ◌-◌, ◌<◌, ◌≤◌, max}
 use native.Mathlib.Omega.{arith}
 use lib.Dec.{eqb}
-use lib.ListN.{length, take, length-append}
+use lib.ListN.{length, length-append}
 use borrow.Author.Tests.{eq-eqb, ne_eqb}
 use Rattle.theory.specs.Tree.{Tree, same_tree, mapped, cofactor}
 use Rattle.theory.specs.Table.{Node, Table, at, tree_of, meaning, walk, constants, cut, canon, Good}
@@ -18,18 +18,15 @@ use Rattle.theory.proofs.Canon.{Canonical, canonical, canon-ordered}
 use Rattle.theory.proofs.Small.{meaning-deep}
 use Rattle.theory.proofs.Words.{length-nodes, at-nodes}
 use Rattle.refusal.specs.Limits.{max_marks}
-use Rattle.refusal.specs.Buffers.{padded}
 use Rattle.refusal.specs.Verdict.{replied, gives}
-use Rattle.table.specs.declared.BddPointer.{BddPointer}
 use Rattle.making.specs.Made.{Beyond}
-use Rattle.pool.specs.declared.Noted.{Noted}
-use Rattle.pool.specs.declared.Noted.TheVariants.{Node as Got, Full}
 use Rattle.cube.proofs.Sizes.{adds}
 use Rattle.carry.specs.declared.Way.{Way}
-use Rattle.carry.specs.Carry.{flip, carried, Carrying, Carries}
-use Rattle.carry.proofs.WholeLaws.{empty-memo, carried-whole, same_function}
+use Rattle.carry.specs.Carry.{flip, plain, carried, Begun, Carried}
+use Rattle.carry.proofs.WholeLaws.{carried-whole, same_function}
 use Rattle.cover.specs.Cover.{first_differing, cover_answer}
-use Rattle.cover.specs.Compare.{Paired, Comparing, Brought, Brings}
+use Rattle.table.specs.Inspection.{SoundTable}
+use Rattle.cover.specs.Compare.{Paired, Comparing, Brought}
 use Rattle.cover.proofs.DescentLaws.{same_nodes}
 
 nodes-same : (k : ℕ) (w v : List ℕ) → ((i : ℕ) → i < k → node_at w i ≡ node_at v i) → nodes k w ≡ nodes k v
@@ -38,10 +35,8 @@ nodes-same zero w v h = refl
 nodes-same (suc k) w v h = ap₂ (λ (s : Table) (x : Node). s ++ (x ∷ [])) (nodes-same k w v (λ i l. h i (omega arith))) (h k (omega arith))
 
 -- a table carried as it is
-abbrev plain : ℕ → ℕ → Way
-plain n room = record { n = n; room = room; variable = record { 0 = n }; value = false; exchange = false }
 
-module _ (n count : ℕ) (words : List ℕ) (root made : ℕ) (pool memo : List ℕ) (g : Comparing n count words root made pool memo) where
+module _ (n count : ℕ) (words : List ℕ) (root made : ℕ) (pool memo : List ℕ) (input : SoundTable n count words root) (g : Comparing n count made pool memo) where
   abbrev t : Tree
   t = meaning n (nodes made pool)
 
@@ -53,13 +48,13 @@ module _ (n count : ℕ) (words : List ℕ) (root made : ℕ) (pool memo : List 
 
   whole : tree_of n s 0 root ≡ u
   unfolding meaning
-  whole = ap (tree_of n s 0) (omega (arith, length-nodes count words, g.table.last))
+  whole = ap (tree_of n s 0) (omega (arith, length-nodes count words, input.last))
 
   pub made_some : 1 ≤ made
   made_some = omega (arith, ap length g.canonical, length-nodes made pool, (canon-ordered n t (meaning-deep n (nodes made pool))).some)
 
   lies : root < length s
-  lies = omega (arith, length-nodes count words, g.table.last, g.table.some)
+  lies = omega (arith, length-nodes count words, input.last, input.some)
 
   module _ (pool₁ : List ℕ) (same : length pool₁ ≡ length pool) (front : nodes 2 pool₁ ≡ constants n) (beyond : Beyond 2 pool pool₁) where
     constant : (i : ℕ) → i < 2 → node_at pool₁ i ≡ at (constants n) i
@@ -97,7 +92,7 @@ module _ (n count : ℕ) (words : List ℕ) (root made : ℕ) (pool memo : List 
         let pair : walk (constants n) 0 t ≡ (nodes (max made 2) pool₁, made - 1) = λ i. (sym held-is.0 i, sym held-is.1 i) in
         subst (λ z. Walked n (constants n) n 0 t z) pair (canonical n t (meaning-deep n (nodes made pool))).sound
 
-    module _ (held : ℕ) (is : held ≡ max made 2) (memo₁ : List ℕ) (empty : memo₁ ≡ padded (take 0 memo) (length memo)) (same-memo : length memo₁ ≡ length memo) where
+    module _ (held : ℕ) (is : held ≡ max made 2) where
       abbrev o : Table
       o = nodes held pool₁
 
@@ -107,40 +102,39 @@ module _ (n count : ℕ) (words : List ℕ) (root made : ℕ) (pool memo : List 
       start : Walked n (constants n) n 0 t (o, made - 1)
       start = subst (λ k. Walked n (constants n) n 0 t (nodes k pool₁, made - 1)) (sym is) walked
 
-      pub bringing : Carrying words pool₁ memo₁ way count held root
-      bringing = record {
-        reading = record {
-          marks = g.table.marks;
-          few = g.table.few;
-          long = g.table.long;
-          wide = omega (arith, g.wide);
-          ordered = g.table.ordered;
-          lies = omega (arith, g.table.last, g.table.some);
-        };
-        pushing = record { few = omega (arith, g.few, g.table.few); long = omega (arith, g.long, made_some); fits = omega arith };
-        good = start.good;
-        known = empty-memo memo memo₁ way s o count g.wide empty;
-      }
+      pub bringing : Begun words pool₁ memo way count held × (root < count)
+      bringing = (
+        record {
+          marks = input.marks;
+          few = input.few;
+          long = input.long;
+          wide = g.wide;
+          ordered = input.ordered;
+          pushing = record { few = omega (arith, g.few, input.few); long = omega (arith, g.long, made_some); fits = omega arith };
+          good = start.good;
+        },
+        omega (arith, input.last, input.some),
+      )
 
       is-walk : carried way s o root ≡ walk o 0 u
       is-walk =
-          carried-whole way s o start.good g.table.ordered root lies
+          carried-whole way s o start.good input.ordered root lies
           ∙ ap (λ x. walk o 0 (mapped (flip false) (cofactor n false x))) whole
           ∙ ap (walk o 0) (same_function n s false)
 
       fits : length (walk o 0 u).0 ≤ held + count
       fits =
-          let few = adds n s o g.table.ordered start.good root (record { lies = lies; fits = omega arith }) in
+          let few = adds n s o input.ordered start.good root (record { lies = lies; fits = omega arith }) in
           let same-walk : length (walk o 0 (tree_of n s 0 root)).0 ≡ length (walk o 0 u).0 = ap (λ x. length (walk o 0 x).0) whole in
           omega (arith, few, same-walk, length-nodes count words, length-nodes held pool₁)
 
       module _ (pool₂ memo₂ : List ℕ) (same₂ : length pool₂ ≡ length pool₁) where
-        pub brings : (answer : Noted) → Carries words pool₁ pool₂ memo₂ way count held root answer → Brings n t u made pool₂ answer
-        brings (Got p m) c =
-            let after : Walked n o n 0 u (nodes m pool₂, p.0) = subst (λ z. Walked n o n 0 u z) (sym is-walk ∙ c.holds.is) (sound n n u (meaning-deep n s) 0 (omega arith) o start.good) in
+        pub brings : (p m : ℕ) → Carried words pool₁ pool₂ memo₂ way count held root p m → Brought n t u made pool₂ p m
+        brings p m c =
+            let after : Walked n o n 0 u (nodes m pool₂, p) = subst (λ z. Walked n o n 0 u z) (sym is-walk ∙ c.holds.is) (sound n n u (meaning-deep n s) 0 (omega arith) o start.good) in
             let longer : m ≡ held + length after.more = omega (arith, ap length after.grown, length-append o after.more, length-nodes m pool₂, length-nodes held pool₁) in
             record {
-              few = omega (arith, c.holds.fits, g.few, g.table.few);
+              few = omega (arith, c.holds.fits, g.few, input.few);
               long = omega (arith, c.holds.fits, g.long, made_some);
               good = after.good;
               left = omega (arith, longer, start.stands.lies, length-nodes held pool₁);
@@ -151,16 +145,11 @@ module _ (n count : ℕ) (words : List ℕ) (root made : ℕ) (pool memo : List 
                   ∙ start.means;
               right-means = after.means;
             }
-        brings Full c = omega (arith, fits, rw is-walk at c)
+
+      pub roomy : held + count < length (carried way s o root).0 → ⊥
+      roomy over = omega (arith, fits, rw is-walk at over)
 
 -- ---- compared
-module _ (n : ℕ) (t u : Tree) (made : ℕ) (pool : List ℕ) (answer : Noted) (b : Brings n t u made pool answer) where
-  pub never_full : answer ≡ Full → ⊥
-  never_full e = subst (λ z. Brings n t u made pool z) e b
-
-  pub brought : (p : BddPointer) (total : ℕ) → answer ≡ Got p total → Brought n t u made pool p.0 total
-  brought p total e = subst (λ z. Brings n t u made pool z) e b
-
 module _ (n : ℕ) (t u : Tree) (made : ℕ) (pool : List ℕ) (p total : ℕ) (b : Brought n t u made pool p total) where
   left : Stands (nodes total pool) 0 (made - 1)
   left = record { lies = omega (arith, b.left, length-nodes total pool); fits = omega arith }

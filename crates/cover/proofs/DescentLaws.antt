@@ -10,31 +10,18 @@ use lib.Dec.{eqb}
 use lib.Pow.{pow_mono}
 use borrow.Author.Tests.{eq-eqb, ne_eqb}
 use Rattle.theory.specs.Tree.{Tree, leaf, fork, Deep, same_tree}
-use Rattle.theory.specs.Table.{Node, Table, child_of, step, tree_of, Good}
-use Rattle.theory.specs.Words.{node_at, nodes}
+use Rattle.theory.specs.Table.{Table, step, tree_of, Good}
+use Rattle.theory.specs.Words.{nodes}
 use Rattle.theory.proofs.Step.{Stands, stands-step}
 use Rattle.theory.proofs.Walk.{alone}
 use Rattle.theory.proofs.Small.{tree_of-deep}
-use Rattle.theory.proofs.Words.{length-nodes, at-nodes}
+use Rattle.theory.proofs.Words.{length-nodes}
 use Rattle.theory.proofs.Support.{same_equal, same_refl}
 use Rattle.refusal.specs.Limits.{max_marks}
-use Rattle.build.proofs.BuildLaws.{some-marks}
+use Rattle.join.specs.Task.{step_in}
+use Rattle.join.proofs.LeafLaws.{step_in_lem}
 use Rattle.cover.specs.Cover.{first_differing}
-use Rattle.cover.specs.Compare.{step_at, Paired}
-
--- ---- a step
-module _ (words : List ℕ) (level p : ℕ) where
-  pub stays : (bit : Bool) → ((node_at words p).mark ≡ level → ⊥) → p ≡ step_at words level bit p
-  unfolding step_at
-  stays bit ne = rw (ne_eqb (node_at words p).mark level ne)
-
-  pub goes : (b bit : Bool) → bit ≡ b → (r : ℕ) → (node_at words p).mark ≡ level → r ≡ child_of b (node_at words p) → r ≡ step_at words level bit p
-  unfolding step_at
-  goes b bit e r is c = rw (eq-eqb (node_at words p).mark level is, e) c
-
-step-at : (count : ℕ) (words : List ℕ) (level : ℕ) (bit : Bool) (p : ℕ) → p < count → step_at words level bit p ≡ step (nodes count words) level bit p
-unfolding step step_at
-step-at count words level bit p h = ap (λ (x : Node). cond (eqb x.mark level) (child_of bit x) p) (sym (at-nodes count words p h))
+use Rattle.cover.specs.Compare.{Paired}
 
 -- ---- in a good table equal functions are one node
 pub same_nodes : (n : ℕ) (s : Table) → Good n s → (k l p q : ℕ) → l + k ≡ n → Stands s l p → Stands s l q → same_tree (tree_of k s l p) (tree_of k s l q) ≡ eqb p q
@@ -53,7 +40,7 @@ unfolding first_differing
 first_small zero (leaf a) u d = omega arith
 first_small zero (fork lo hi) u d = absurd d
 first_small (suc k) (leaf a) u d = absurd d
-first_small (suc k) (fork lo hi) (leaf b) d = some-marks (suc k)
+first_small (suc k) (fork lo hi) (leaf b) d = omega (arith, pow_mono {i = 0} {j = suc k} (omega arith))
 first_small (suc k) (fork lo hi) (fork lo' hi') d = side (same_tree lo lo') (first_small k lo lo' d.0) (first_small k hi hi' d.1)
   where
     side : (same : Bool) → first_differing lo lo' < 2 ^ k → first_differing hi hi' < 2 ^ k → cond same (2 * first_differing hi hi' + 1) (2 * first_differing lo lo') < 2 ^ suc k
@@ -89,12 +76,12 @@ module _ (n count : ℕ) (words : List ℕ) where
       more : n - level ≡ suc (n - suc level)
       more = omega (arith, g.within)
 
-      module _ (bit : Bool) (p' q' : ℕ) (ep : p' ≡ step_at words level bit p) (eq : q' ≡ step_at words level bit q) where
+      module _ (bit : Bool) (p' q' : ℕ) (ep : p' ≡ step_in words level bit p) (eq : q' ≡ step_in words level bit q) where
         left_is : p' ≡ step s level bit p
-        left_is = ep ∙ step-at count words level bit p left-lies
+        left_is = ep ∙ step_in_lem count words level bit p left-lies
 
         right_is : q' ≡ step s level bit q
-        right_is = eq ∙ step-at count words level bit q right-lies
+        right_is = eq ∙ step_in_lem count words level bit q right-lies
 
         pub paired_below : Paired n (level + 1) count words p' q'
         paired_below = record {
@@ -118,7 +105,7 @@ module _ (n count : ℕ) (words : List ℕ) where
             → r ≡ first_differing (tree_of (n - suc level) s (suc level) (step s level bit p)) (tree_of (n - suc level) s (suc level) (step s level bit q))
         first-is r e = rw (left_is, right_is, add-one level) at e
 
-      module _ (low other : ℕ) (el : low ≡ step_at words level false p) (eo : other ≡ step_at words level false q) where
+      module _ (low other : ℕ) (el : low ≡ step_in words level false p) (eo : other ≡ step_in words level false q) where
         same-is : same_tree (tree_of (n - suc level) s (suc level) (step s level false p)) (tree_of (n - suc level) s (suc level) (step s level false q)) ≡ eqb low other
         same-is =
             same_nodes n s g.good (n - suc level) (suc level) _ _ (omega (arith, g.within))
@@ -126,7 +113,7 @@ module _ (n count : ℕ) (words : List ℕ) where
             (stands-step n s g.good.ordered level false q (omega (arith, g.within)) g.right)
             ∙ sym (ap₂ eqb (left_is false low other el eo) (right_is false low other el eo))
 
-        pub first-high : low ≡ other → (high other-high : ℕ) → high ≡ step_at words level true p → other-high ≡ step_at words level true q
+        pub first-high : low ≡ other → (high other-high : ℕ) → high ≡ step_in words level true p → other-high ≡ step_in words level true q
             → (r : ℕ) → r ≡ first_from (level + 1) high other-high → 2 * r + 1 ≡ first_from level p q
         first-high same high other-high eh eo r e =
             rw more (ap (λ x. 2 * x + 1) (first-is true high other-high eh eo r e) ∙ sym (down (n - suc level) s level p q true (same-is ∙ eq-eqb low other same)))

@@ -7,19 +7,18 @@ use Rattle.theory.specs.Table.{meaning}
 use Rattle.theory.specs.Words.{nodes}
 use Rattle.refusal.specs.Number.{LIMIT, SHORT, CLAUSE, NODES}
 use Rattle.refusal.specs.Limits.{max_nodes, max_clauses}
-use Rattle.refusal.specs.Verdict.{Reply, gives, refusal_reply, Finding, finding, Verdict, answered, judged}
+use Rattle.refusal.specs.Verdict.{Finding, finding, Verdict, answered, judged}
 use Rattle.table.specs.Inspection.{over_limit, too_short, not_ordered}
 use Rattle.making.specs.Room.{over_room, short_work}
 use Rattle.cube.specs.Cube.{clause_at}
 use Rattle.builders.specs.Builders.{over_list, short_list, first_bad_entry, run_means, shortest_over}
-use Rattle.cover.specs.declared.Covered.{Covered}
-use Rattle.cover.specs.declared.Covered.TheVariants.{Agrees, Differs, Refused}
+use Rattle.cover.specs.declared.Cover.{Cover}
+use Rattle.cover.specs.declared.Cover.TheVariants.{Agrees, Differs}
 
--- the reply of agreement is 0, of a difference 1 and the case
-unfoldable pub covered_reply : Covered → Reply
-covered_reply Agrees = gives (0 ∷ [])
-covered_reply (Differs c) = gives (1 ∷ c ∷ [])
-covered_reply (Refused r) = refusal_reply r
+-- agreement is 0, a difference 1 and the case
+abbrev pub cover_words : Cover → List ℕ
+cover_words Agrees = 0 ∷ []
+cover_words (Differs c) = 1 ∷ c ∷ []
 
 -- LIMIT: over 60 marks, a table count outside 1..4096, over 1,024 clauses, or a room outside 2..4096
 unfoldable pub over_cover : ℕ → ℕ → ℕ → ℕ → Bool

@@ -1,42 +1,49 @@
 // The cover check: whether a list of clauses and a table say the same of every case.
+// An entry's parameters are those of the C interface, one by one; what an entry hands on stays in that order.
 #![tactic(auto)]
 
 ghost use Rattle.std.specs.Prelude.{◌≡◌, ◌+◌, ◌*◌, ◌-◌, ◌<◌, length};
 ghost use Rattle.theory.specs.Table.{tree_of, meaning};
 ghost use Rattle.theory.specs.Words.{stride, nodes};
 ghost use Rattle.refusal.specs.Buffers.{work_after};
-ghost use Rattle.refusal.specs.Verdict.{replied, judged};
-ghost use Rattle.table.specs.Inspection.{inspection_reply, root_of};
-ghost use Rattle.cover.specs.Cover.{covered_reply, over_cover, short_cover, Within, cover_findings, first_differing, cover_answer, covers, checks_cover};
-ghost use Rattle.cover.specs.Compare.{step_at, Paired, Comparing, Brings, Covering};
+ghost use Rattle.refusal.specs.Verdict.{gives, replied, judged};
+ghost use Rattle.refusal.specs.Told.{reply_of};
+ghost use Rattle.table.specs.Inspection.{pointer, inspection_reply, root_of};
+ghost use Rattle.cover.specs.Cover.{cover_words, over_cover, short_cover, Within, cover_findings, first_differing, cover_answer, covers, checks_cover};
+ghost use Rattle.cover.specs.Compare.{Paired, Comparing, Brought, Covering};
 
 use carry::Way;
-use making::Tabled;
-use pool::Noted;
-use refusal::{CLAUSE, LIMIT, NODES, Refusal, SHORT};
-use table::{BddPointer, Inspection};
+use entries::{Clauses, Form};
+use refusal::{Refusal, RefusalKind, Told, refuse_if};
+use table::{BddPointer, Inspection, Table};
 use valuation::BddVariable;
 
-// The answer: list and table agree, or the first case that they tell apart.
-#[derive(Clone, Copy)]
-pub enum Covered {
+// What the check finds: list and table agree, or the first case that they tell apart. No Option: the names say which of the two is the good answer.
+#[derive(Clone, Copy, PartialEq, Eq, Debug)]
+pub enum Cover {
     Agrees,
     Differs(u64),
-    Refused(Refusal),
 }
 
+impl Told for Cover {
+    ghost values = { cover_words };
+
+    fn tell(self, out: &mut [u64]) {
+        match self {
+            Self::Agrees => refusal::tell_with(0, (), out),
+            Self::Differs(case) => refusal::tell_with(1, case, out),
+        }
+    }
+}
+
+#[tactic(auto, unfolding(crate::specs::Cover::over_cover))]
 fn over_cover(n: u16, count: usize, clause_count: usize, room: usize) -> bool
     ensures { result ≡ over_cover n count clause_count room }
 {
-    if table::over_limit(n, count) {
-        return true;
-    }
-    if builders::over_list(n, clause_count) {
-        return true;
-    }
-    making::over_room(room)
+    table::over_limit(n, count) || builders::over_list(n, clause_count) || making::over_room(room)
 }
 
+#[tactic(auto, unfolding(crate::specs::Cover::short_cover))]
 fn short_cover(
     count: usize,
     bdd: &[u32],
@@ -48,16 +55,37 @@ fn short_cover(
     requires { Within count clause_count room }
     ensures { result ≡ short_cover count bdd.now clause_count clauses.now room work.now }
 {
-    if table::too_short(count, bdd) {
-        return true;
-    }
-    if builders::short_list(clause_count, clauses, false) {
-        return true;
-    }
-    making::short_work(admission::wider(room, count), work)
+    table::too_short(count, bdd)
+        || builders::short_list::<Clauses>(clause_count, clauses)
+        || making::short_work(room.max(count), work)
 }
 
 // The tests of a table, a list, a room and work, in the order of their numbers.
+#[tactic(auto, using(crate::proofs::AdmitLaws::limits, crate::proofs::AdmitLaws::limited, crate::proofs::AdmitLaws::sized, table::proofs::InspectLaws::within, table::proofs::InspectLaws::long), unfolding(refusal::specs::Number::order, refusal::specs::Verdict::judged, refusal::specs::Verdict::tried, refusal::specs::Verdict::first_of, refusal::specs::Verdict::replied, table::specs::Inspection::roots))]
+fn cover_root(
+    n: u16,
+    count: usize,
+    bdd: &[u32],
+    clause_count: usize,
+    clauses: &[u64],
+    room: usize,
+    work: &[u32],
+) -> Result<BddPointer, Refusal>
+    ensures { reply_of pointer result ≡ replied (judged (cover_findings n count bdd.now clause_count clauses.now room work.now) (root_of count)) }
+{
+    refuse_if(
+        over_cover(n, count, clause_count, room),
+        RefusalKind::Limit,
+        0,
+    )?;
+    let short = short_cover(count, bdd, clause_count, clauses, room, work);
+    refuse_if(short, RefusalKind::Short, 0)?;
+    let bad = builders::first_bad::<Clauses>(n, clause_count, clauses);
+    refuse_if(bad < clause_count, RefusalKind::Clause, bad as u64)?;
+    table::ordered_root(n, count, bdd)
+}
+
+#[tactic(auto, using(table::proofs::InspectLaws::inspected_reply))]
 fn admit_cover(
     n: u16,
     count: usize,
@@ -69,34 +97,7 @@ fn admit_cover(
 ) -> Inspection
     ensures { inspection_reply result ≡ replied (judged (cover_findings n count bdd.now clause_count clauses.now room work.now) (root_of count)) }
 {
-    if over_cover(n, count, clause_count, room) {
-        return table::refused(LIMIT);
-    }
-    if short_cover(count, bdd, clause_count, clauses, room, work) {
-        return table::refused(SHORT);
-    }
-    let bad = builders::first_bad(n, clause_count, clauses, false);
-    if bad < clause_count {
-        return Inspection::Refused(Refusal {
-            number: CLAUSE,
-            place: bad as u64,
-        });
-    }
-    table::ordered_root(n, count, bdd)
-}
-
-// Where node p leads for a bit of the level's mark; a node of another mark is stayed at.
-fn next_node(pool: &[u32], level: u16, bit: bool, p: BddPointer) -> BddPointer
-    requires { stride * p.0 + 2 < length pool.now }
-    ensures { result.0 ≡ step_at pool.now level bit p.0 }
-{
-    if table::mark_word(pool, p) != level as u32 {
-        return p;
-    }
-    if bit {
-        return table::high_link_of(pool, p);
-    }
-    table::low_link_of(pool, p)
+    Inspection::from(cover_root(n, count, bdd, clause_count, clauses, room, work))
 }
 
 // The first case, from a level on, that two nodes of the pool tell apart: high only where the low sides are one node.
@@ -114,99 +115,82 @@ fn first_differing(
     if level == n {
         return 0;
     }
-    let low = next_node(pool, level, false, p);
-    let other_low = next_node(pool, level, false, q);
+    let mark = BddVariable(level);
+    let low = join::step_to(pool, p, mark, false);
+    let other_low = join::step_to(pool, q, mark, false);
     if low.0 == other_low.0 {
-        let high = next_node(pool, level, true, p);
-        let other_high = next_node(pool, level, true, q);
+        let high = join::step_to(pool, p, mark, true);
+        let other_high = join::step_to(pool, q, mark, true);
         return 2 * first_differing(n, level + 1, count, pool, high, other_high) + 1;
     }
     2 * first_differing(n, level + 1, count, pool, low, other_low)
 }
 
 // The given table carried into the pool, behind the canonical one at its front: its root there, and the pool's count.
-fn bring(
-    n: u16,
-    count: usize,
-    bdd: &[u32],
-    root: BddPointer,
-    made: usize,
-    pool: &mut [u32],
-    memo: &mut [u32],
-) -> Noted
-    requires { Comparing n count bdd.now root.0 made pool.old memo.old }
-    ensures { Brings n (meaning n (nodes made pool.old)) (meaning n (nodes count bdd.now)) made pool.new result }
+fn bring(table: Table, made: usize, pool: &mut [u32], memo: &mut [u32]) -> (BddPointer, u32)
+    requires { Comparing table.n table.count made pool.old memo.old }
+    ensures { Brought table.entry.n (meaning table.entry.n (nodes made pool.old)) (meaning table.entry.n (nodes table.entry.count table.entry.words.now)) made pool.new result.0.0 result.1 }
 {
-    making::put_constants(pool, n);
-    refusal::zero_u32_from(memo, 0);
-    let held = admission::wider(made, 2);
-    let way = Way {
-        n,
-        room: (held + count) as u32,
-        variable: BddVariable(n),
-        value: false,
-        exchange: false,
-    };
-    carry::carry(bdd, pool, memo, way, count as u32, held as u32, root)
+    making::put_constants(pool, table.n);
+    let held = made.max(2);
+    let way = Way::plain(table.n, (held + table.count) as u32);
+    let carried = carry::carry(
+        table.words,
+        pool,
+        memo,
+        way,
+        table.count as u32,
+        held as u32,
+        table.root,
+    );
+    match carried {
+        Some(brought) => brought,
+        None => unreachable!(),
+    }
 }
 
 // The canonical table at the front of the pool against the given one: in one pool equal functions are one node.
-fn compare(
-    n: u16,
-    count: usize,
-    bdd: &[u32],
-    root: BddPointer,
-    made: usize,
-    pool: &mut [u32],
-    memo: &mut [u32],
-) -> Covered
-    requires { Comparing n count bdd.now root.0 made pool.old memo.old }
-    ensures { covered_reply result ≡ replied (cover_answer (meaning n (nodes made pool.old)) (meaning n (nodes count bdd.now))) }
+fn compare(table: Table, made: usize, pool: &mut [u32], memo: &mut [u32]) -> Cover
+    requires { Comparing table.n table.count made pool.old memo.old }
+    ensures { gives (cover_words result) ≡ replied (cover_answer (meaning table.entry.n (nodes made pool.old)) (meaning table.entry.n (nodes table.entry.count table.entry.words.now))) }
 {
-    let brought = bring(n, count, bdd, root, made, pool, memo);
-    let Noted::Node(p, total) = brought else {
-        return Covered::Agrees;
-    };
+    let (p, total) = bring(table, made, pool, memo);
     let top = BddPointer((made - 1) as u32);
     if top.0 == p.0 {
-        return Covered::Agrees;
+        return Cover::Agrees;
     }
-    Covered::Differs(first_differing(n, 0, total, &*pool, top, p))
+    Cover::Differs(first_differing(table.n, 0, total, &*pool, top, p))
 }
 
 // The list's table, built in the work and brought to its front, against the given one.
 fn compare_list(
-    n: u16,
-    count: usize,
-    bdd: &[u32],
-    root: BddPointer,
+    table: Table,
     clause_count: usize,
     clauses: &[u64],
     room: usize,
     memory: &mut [u32],
     work: &mut [u32],
-) -> Covered
-    requires { Covering n count bdd.now root.0 clause_count clauses.now room memory.old work.old }
-    ensures { covered_reply result ≡ replied (covers n count bdd.now clause_count clauses.now room) }
+) -> Result<Cover, Refusal>
+    requires { Covering table.n table.count clause_count clauses.now room memory.old work.old }
+    ensures { reply_of cover_words result ≡ replied (covers table.entry.n table.entry.count table.entry.words.now clause_count clauses.now room) }
 {
-    let tabled = build::build(
-        n,
+    let tabled = build::build::<Clauses>(
+        table.n,
         clauses,
-        false,
         clause_count as u32,
-        1,
+        Form::Dnf,
         room as u32,
         memory,
         work,
     );
     match tabled {
-        Tabled::Over(place) => Covered::Refused(Refusal {
-            number: NODES,
+        Err(place) => Err(Refusal {
+            kind: RefusalKind::Nodes,
             place,
         }),
-        Tabled::Count(made) => {
+        Ok(made) => {
             build::copy_nodes(work, &*memory, made as u32);
-            compare(n, count, bdd, root, made, work, memory)
+            Ok(compare(table, made, work, memory))
         }
     }
 }
@@ -220,26 +204,23 @@ pub fn check_cover(
     clauses: &[u64],
     room: usize,
     work: &mut [u32],
-) -> Covered
-    ensures result_value { covered_reply result ≡ replied (checks_cover n count bdd.now clause_count clauses.now room work.old) }
+) -> Result<Cover, Refusal>
+    ensures result_value { reply_of cover_words result ≡ replied (checks_cover n count bdd.now clause_count clauses.now room work.old) }
     ensures work_after { work.new ≡ work_after (checks_cover n count bdd.now clause_count clauses.now room work.old) work.old }
 {
     let admitted = admit_cover(n, count, bdd, clause_count, clauses, room, &*work);
     let Inspection::Sound(root) = admitted else {
-        return Covered::Refused(table::refusal_of(admitted));
+        return Err(admitted.refusal());
     };
-    let mut memory = [0u32; 12288];
-    let covered = compare_list(
+    let table = Table {
         n,
         count,
-        bdd,
+        words: bdd,
         root,
-        clause_count,
-        clauses,
-        room,
-        &mut memory,
-        work,
-    );
-    refusal::zero_u32_from(work, 0);
+    };
+    // A local, as there is no heap: the build takes all of the work.
+    let mut memory = [0u32; 12288];
+    let covered = compare_list(table, clause_count, clauses, room, &mut memory, work);
+    work.fill(0);
     covered
 }

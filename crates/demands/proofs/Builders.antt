@@ -6,9 +6,8 @@ use mathlib.Core.Bool.{true, false, not}
 use mathlib.Core.List.{List}
 use Prim.Native.Nat.{ℕ, ◌-◌, ◌^◌}
 use Rattle.refusal.specs.Verdict.{answered}
-use Rattle.refusal.proofs.Single.{Single, single}
-use Rattle.making.specs.Made.{made_reply}
-use Rattle.making.proofs.MakesLaws.{made_one}
+use Rattle.refusal.specs.Told.{number, reply_of}
+use Rattle.refusal.proofs.Single.{Single, single, number-one}
 use Rattle.cube.specs.Cube.{dnf, cnf, clause_at, case_at, opening}
 use Rattle.builders.specs.Builders.{listed_case, list_findings, makes_dnf, makes_cnf, makes_dnf_valuation, makes_cnf_valuation}
 use Rattle.builders.proofs.Built as of
@@ -36,14 +35,14 @@ module _ (n count : ℕ) (list : List ℕ) (room : ℕ) (out work : List ℕ) wh
       → Smallest n (λ case. not (listed_case list count (2 ^ n - 1 - case))) (makes_cnf_valuation n count list room out work)
   mk_cnf_valuation-says = of.cnf_valuation_cases n count list room out work
 
-  mk_dnf-single : Single made_reply (makes_dnf n count list room out work)
-  mk_dnf-single = single made_reply made_one (makes_dnf n count list room out work)
+  mk_dnf-single : Single (reply_of number) (makes_dnf n count list room out work)
+  mk_dnf-single = single (reply_of number) number-one (makes_dnf n count list room out work)
 
-  mk_cnf-single : Single made_reply (makes_cnf n count list room out work)
-  mk_cnf-single = single made_reply made_one (makes_cnf n count list room out work)
+  mk_cnf-single : Single (reply_of number) (makes_cnf n count list room out work)
+  mk_cnf-single = single (reply_of number) number-one (makes_cnf n count list room out work)
 
-  mk_dnf_valuation-single : Single made_reply (makes_dnf_valuation n count list room out work)
-  mk_dnf_valuation-single = single made_reply made_one (makes_dnf_valuation n count list room out work)
+  mk_dnf_valuation-single : Single (reply_of number) (makes_dnf_valuation n count list room out work)
+  mk_dnf_valuation-single = single (reply_of number) number-one (makes_dnf_valuation n count list room out work)
 
-  mk_cnf_valuation-single : Single made_reply (makes_cnf_valuation n count list room out work)
-  mk_cnf_valuation-single = single made_reply made_one (makes_cnf_valuation n count list room out work)
+  mk_cnf_valuation-single : Single (reply_of number) (makes_cnf_valuation n count list room out work)
+  mk_cnf_valuation-single = single (reply_of number) number-one (makes_cnf_valuation n count list room out work)

@@ -7,12 +7,13 @@ use mathlib.Core.List.{List}
 use Prim.Native.Nat.{ℕ, ◌^◌, ◌≤◌, ◌<◌}
 use Rattle.refusal.specs.Number.{NODES}
 use Rattle.refusal.specs.Verdict.{refused, answered, judged}
+use Rattle.refusal.specs.Told.{reply_of}
 use Rattle.refusal.proofs.Judged.{Clean}
 use Rattle.refusal.proofs.Single.{Single}
 use Rattle.table.specs.Case.{table_says}
 use Rattle.cube.specs.Cube.{dnf, clause_at, opening}
 use Rattle.builders.proofs.Built.{NoRoom}
-use Rattle.cover.specs.Cover.{covered_reply, cover_findings, agreement, difference, checks_cover}
+use Rattle.cover.specs.Cover.{cover_words, cover_findings, agreement, difference, checks_cover}
 use Rattle.cover.proofs.FirstLaws.{First}
 use Rattle.cover.proofs.Checked as of
 
@@ -34,5 +35,5 @@ module _ (n count : ℕ) (words : List ℕ) (clauses : ℕ) (list : List ℕ) (r
         → (place ≤ clauses) × NoRoom n room (dnf n (opening (clause_at list) place)) × ((k : ℕ) → k < place → NoRoom n room (dnf n (opening (clause_at list) k)) → ⊥)
     cover_shortest = of.check_refused n count words clauses list room work clean
 
-  check_cover-single : Single covered_reply (checks_cover n count words clauses list room work)
+  check_cover-single : Single (reply_of cover_words) (checks_cover n count words clauses list room work)
   check_cover-single = of.check_cover-single n count words clauses list room work

@@ -13,11 +13,12 @@ use Rattle.theory.specs.Words.{nodes}
 use Rattle.refusal.specs.Number.{LIMIT, SHORT, VARIABLE, CLAUSE, TABLE, REDUCED, NODES, CLAUSES, SHEET}
 use Rattle.refusal.specs.Buffers.{padded, zeroing, buffer_after, output_after, work_after}
 use Rattle.refusal.specs.Verdict.{refused, answered}
-use Rattle.refusal.specs.Truth.{truth_reply}
-use Rattle.refusal.specs.Counted.{counted_reply}
-use Rattle.refusal.proofs.Single.{Single, single, truth-one, counted-one}
-use Rattle.valuation.specs.declared.ValueList.{ValueList}
-use Rattle.valuation.specs.Replies.{lookup_reply, updated_reply, last_fixed_reply, value_list_reply, replied_in}
+use Rattle.std.specs.Prelude.{Result}
+use Rattle.refusal.specs.Told.{number, truth, reply_of}
+use Rattle.refusal.specs.declared.Refusal.{Refusal}
+use Rattle.refusal.proofs.Single.{Single, single, truth-one, number-one}
+use Rattle.valuation.specs.declared.Values.{Values}
+use Rattle.valuation.specs.Replies.{lookup_reply, both_words, mark_words, value_list_reply, replied_in}
 use Rattle.valuation.specs.Valuation.{asks_empty, counts_fixed, finds_last, gathers_values, lists_values, gets_value, asks_value, sets_value, unsets_value, asks_extends, asks_equal}
 use Rattle.valuation.proofs.OneToOne.{lookup_one, updated_one, last_one, single-list}
 use Rattle.table.specs.Inspection.{inspection_reply, inspects, SoundTable}
@@ -29,41 +30,41 @@ use Rattle.table.proofs.Inspected.{inspects-sound, sound-inspects, table-place}
 inspect-single : (n count : ℕ) (words : List ℕ) → Single inspection_reply (inspects n count words)
 inspect-single n count words = single inspection_reply inspection_one (inspects n count words)
 
-eval_in-single : (n count : ℕ) (words : List ℕ) (case : ℕ) → Single truth_reply (evaluates n count words case)
-eval_in-single n count words case = single truth_reply truth-one (evaluates n count words case)
+eval_in-single : (n count : ℕ) (words : List ℕ) (case : ℕ) → Single (reply_of truth) (evaluates n count words case)
+eval_in-single n count words case = single (reply_of truth) truth-one (evaluates n count words case)
 
-is_empty-single : (c : Clause) → Single truth_reply (asks_empty c)
-is_empty-single c = single truth_reply truth-one (asks_empty c)
+is_empty-single : (c : Clause) → Single (reply_of truth) (asks_empty c)
+is_empty-single c = single (reply_of truth) truth-one (asks_empty c)
 
-cardinality-single : (c : Clause) → Single counted_reply (counts_fixed c)
-cardinality-single c = single counted_reply counted-one (counts_fixed c)
+cardinality-single : (c : Clause) → Single (reply_of number) (counts_fixed c)
+cardinality-single c = single (reply_of number) number-one (counts_fixed c)
 
-last_fixed_variable-single : (c : Clause) → Single last_fixed_reply (finds_last c)
-last_fixed_variable-single c = single last_fixed_reply last_one (finds_last c)
+last_fixed_variable-single : (c : Clause) → Single (reply_of mark_words) (finds_last c)
+last_fixed_variable-single c = single (reply_of mark_words) last_one (finds_last c)
 
-from_values-single : (values : List ℕ) → Single updated_reply (gathers_values values)
-from_values-single values = single updated_reply updated_one (gathers_values values)
+from_values-single : (values : List ℕ) → Single (reply_of both_words) (gathers_values values)
+from_values-single values = single (reply_of both_words) updated_one (gathers_values values)
 
-to_values-single : (c : Clause) (a b : ValueList) → value_list_reply a ≡ replied_in 61 (lists_values c) → value_list_reply b ≡ replied_in 61 (lists_values c) → a ≡ b
+to_values-single : (c : Clause) (a b : Result Values Refusal) → value_list_reply a ≡ replied_in 61 (lists_values c) → value_list_reply b ≡ replied_in 61 (lists_values c) → a ≡ b
 to_values-single c = single-list 61 (lists_values c)
 
 get_value-single : (c : Clause) (mark : ℕ) → Single lookup_reply (gets_value c mark)
 get_value-single c mark = single lookup_reply lookup_one (gets_value c mark)
 
-has_value-single : (c : Clause) (mark : ℕ) → Single truth_reply (asks_value c mark)
-has_value-single c mark = single truth_reply truth-one (asks_value c mark)
+has_value-single : (c : Clause) (mark : ℕ) → Single (reply_of truth) (asks_value c mark)
+has_value-single c mark = single (reply_of truth) truth-one (asks_value c mark)
 
-set_value-single : (c : Clause) (mark : ℕ) (value : Bool) → Single updated_reply (sets_value c mark value)
-set_value-single c mark value = single updated_reply updated_one (sets_value c mark value)
+set_value-single : (c : Clause) (mark : ℕ) (value : Bool) → Single (reply_of both_words) (sets_value c mark value)
+set_value-single c mark value = single (reply_of both_words) updated_one (sets_value c mark value)
 
-unset_value-single : (c : Clause) (mark : ℕ) → Single updated_reply (unsets_value c mark)
-unset_value-single c mark = single updated_reply updated_one (unsets_value c mark)
+unset_value-single : (c : Clause) (mark : ℕ) → Single (reply_of both_words) (unsets_value c mark)
+unset_value-single c mark = single (reply_of both_words) updated_one (unsets_value c mark)
 
-extends-single : (c d : Clause) → Single truth_reply (asks_extends c d)
-extends-single c d = single truth_reply truth-one (asks_extends c d)
+extends-single : (c d : Clause) → Single (reply_of truth) (asks_extends c d)
+extends-single c d = single (reply_of truth) truth-one (asks_extends c d)
 
-eq-single : (c d : Clause) → Single truth_reply (asks_equal c d)
-eq-single c d = single truth_reply truth-one (asks_equal c d)
+eq-single : (c d : Clause) → Single (reply_of truth) (asks_equal c d)
+eq-single c d = single (reply_of truth) truth-one (asks_equal c d)
 
 -- inspection answers the root exactly for ordered tables within the limits
 inspect-sound : (n count : ℕ) (words : List ℕ)

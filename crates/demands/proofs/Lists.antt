@@ -11,11 +11,12 @@ use Rattle.theory.specs.Words.{nodes}
 use Rattle.refusal.specs.Number.{CLAUSES}
 use Rattle.refusal.specs.Verdict.{refused, answered, judged}
 use Rattle.refusal.proofs.Judged.{Clean}
+use Rattle.refusal.specs.Told.{number, reply_of}
 use Rattle.refusal.proofs.Single.{Single}
 use Rattle.table.specs.Case.{table_says}
 use Rattle.admission.specs.Admission.{work_findings}
 use Rattle.paths.specs.Paths.{path_list, hits, misses, covered}
-use Rattle.listing.specs.Listed.{listed_reply, capacity, list_answer}
+use Rattle.listing.specs.Listed.{capacity, list_answer}
 use Rattle.lists.specs.Lists.{lists_dnf, lists_cnf}
 use Rattle.lists.proofs.Listed as of
 use Rattle.lists.proofs.Listed.{list_in}
@@ -55,8 +56,8 @@ module _ (n count : ℕ) (words out work : List ℕ) where
       → lists_cnf n count words out work ≡ refused CLAUSES (length (path_list false n (nodes count words)))
   cnf_exceeds = of.list_exceeds false n count words out work
 
-  to_dnf-single : Single listed_reply (lists_dnf n count words out work)
+  to_dnf-single : Single (reply_of number) (lists_dnf n count words out work)
   to_dnf-single = of.to_dnf-single n count words out work
 
-  to_cnf-single : Single listed_reply (lists_cnf n count words out work)
+  to_cnf-single : Single (reply_of number) (lists_cnf n count words out work)
   to_cnf-single = of.to_cnf-single n count words out work

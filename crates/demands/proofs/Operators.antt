@@ -13,19 +13,16 @@ use Rattle.theory.proofs.Cases.{cofactor-deep, cofactor-look}
 use Rattle.theory.proofs.Support.{Depends}
 use Rattle.theory.proofs.Turned.{mapped-deep, mapped-look}
 use Rattle.theory.proofs.Small.{meaning-deep}
-use Rattle.refusal.specs.Counted.{counted_reply}
+use Rattle.refusal.specs.Told.{number, reply_of}
 use Rattle.refusal.specs.Verdict.{answered}
-use Rattle.refusal.proofs.Single.{Single, single, counted-one}
+use Rattle.refusal.proofs.Single.{Single, single, number-one}
 use Rattle.table.specs.Case.{table_says}
-use Rattle.making.specs.Made.{made_reply}
-use Rattle.making.proofs.MakesLaws.{made_one}
 use Rattle.admission.specs.Admission.{table_room_findings, mark_findings, pair_findings}
 use Rattle.admission.proofs.Admitted.{room_quiet, mark_quiet}
 use Rattle.operators.specs.Operators.{makes_and, makes_or, makes_and_not, makes_for_all, makes_exists}
 use Rattle.operators.proofs.OperatesLaws.{Operated, operated}
 use Rattle.operators.proofs.Operated as of
-use Rattle.unary.specs.Unary.{marks_reply, negates, restricts, supports, counts_cases}
-use Rattle.unary.proofs.MarkLaws.{marks-one}
+use Rattle.unary.specs.Unary.{negates, restricts, supports, counts_cases}
 use Rattle.unary.proofs.Operated.{support_exact, support-within, cardinality-counts}
 
 -- two tables
@@ -42,14 +39,14 @@ module _ (n lefts : ℕ) (left : List ℕ) (rights : ℕ) (right : List ℕ) (ro
       (λ case. table_says n lefts left case && not (table_says n rights right case))
   and_not-says = of.and_not_operated n lefts left rights right room out work
 
-  and-single : Single made_reply (makes_and n lefts left rights right room out work)
-  and-single = single made_reply made_one (makes_and n lefts left rights right room out work)
+  and-single : Single (reply_of number) (makes_and n lefts left rights right room out work)
+  and-single = single (reply_of number) number-one (makes_and n lefts left rights right room out work)
 
-  or-single : Single made_reply (makes_or n lefts left rights right room out work)
-  or-single = single made_reply made_one (makes_or n lefts left rights right room out work)
+  or-single : Single (reply_of number) (makes_or n lefts left rights right room out work)
+  or-single = single (reply_of number) number-one (makes_or n lefts left rights right room out work)
 
-  and_not-single : Single made_reply (makes_and_not n lefts left rights right room out work)
-  and_not-single = single made_reply made_one (makes_and_not n lefts left rights right room out work)
+  and_not-single : Single (reply_of number) (makes_and_not n lefts left rights right room out work)
+  and_not-single = single (reply_of number) number-one (makes_and_not n lefts left rights right room out work)
 
 -- one table and a mark
 module _ (n count : ℕ) (words : List ℕ) (mark room : ℕ) (out work : List ℕ) where
@@ -69,14 +66,14 @@ module _ (n count : ℕ) (words : List ℕ) (mark room : ℕ) (out work : List �
       (λ case h. cofactor-look mark value (meaning n (nodes count words)) case)
       (mark_quiet n count words room out work mark)
 
-  for_all-single : Single made_reply (makes_for_all n count words mark room out work)
-  for_all-single = single made_reply made_one (makes_for_all n count words mark room out work)
+  for_all-single : Single (reply_of number) (makes_for_all n count words mark room out work)
+  for_all-single = single (reply_of number) number-one (makes_for_all n count words mark room out work)
 
-  exists_single : Single made_reply (makes_exists n count words mark room out work)
-  exists_single = single made_reply made_one (makes_exists n count words mark room out work)
+  exists_single : Single (reply_of number) (makes_exists n count words mark room out work)
+  exists_single = single (reply_of number) number-one (makes_exists n count words mark room out work)
 
-  restrict-single : (value : Bool) → Single made_reply (restricts n count words mark value room out work)
-  restrict-single value = single made_reply made_one (restricts n count words mark value room out work)
+  restrict-single : (value : Bool) → Single (reply_of number) (restricts n count words mark value room out work)
+  restrict-single value = single (reply_of number) number-one (restricts n count words mark value room out work)
 
 -- one table
 module _ (n count : ℕ) (words : List ℕ) (room : ℕ) (out work : List ℕ) where
@@ -87,8 +84,8 @@ module _ (n count : ℕ) (words : List ℕ) (room : ℕ) (out work : List ℕ) w
       (λ case h. mapped-look not (meaning n (nodes count words)) case)
       (room_quiet n count words room out work)
 
-  not-single : Single made_reply (negates n count words room out work)
-  not-single = single made_reply made_one (negates n count words room out work)
+  not-single : Single (reply_of number) (negates n count words room out work)
+  not-single = single (reply_of number) number-one (negates n count words room out work)
 
 -- one table, and a number for an answer
 module _ (n count : ℕ) (words work : List ℕ) where
@@ -101,8 +98,8 @@ module _ (n count : ℕ) (words work : List ℕ) where
   cardinality-says : (k : ℕ) → counts_cases n count words work ≡ answered (k ∷ []) [] → k ≡ tally (2 ^ n) (table_says n count words)
   cardinality-says = cardinality-counts n count words work
 
-  support-single : Single marks_reply (supports n count words work)
-  support-single = single marks_reply marks-one (supports n count words work)
+  support-single : Single (reply_of number) (supports n count words work)
+  support-single = single (reply_of number) number-one (supports n count words work)
 
-  cardinality-single : Single counted_reply (counts_cases n count words work)
-  cardinality-single = single counted_reply counted-one (counts_cases n count words work)
+  cardinality-single : Single (reply_of number) (counts_cases n count words work)
+  cardinality-single = single (reply_of number) number-one (counts_cases n count words work)

@@ -7,7 +7,8 @@ use mathlib.Core.List.{List, [], ◌∷◌}
 use Prim.Native.Nat.{ℕ}
 use Rattle.refusal.specs.Verdict.{answered}
 use Rattle.refusal.proofs.Single.{Single}
-use Rattle.sheet.specs.Sheet.{table_kind, sheet_reply, clause_kind, decode_header, clause_words, node_words, reads_sheet}
+use Rattle.refusal.specs.Told.{reply_of}
+use Rattle.sheet.specs.Sheet.{table_kind, section_words, clause_kind, decode_header, clause_words, node_words, reads_sheet}
 use Rattle.sheet.specs.Layout.{Whole, ClauseSheet, TableSheet}
 use Rattle.sheet.proofs.Reading as of
 
@@ -28,5 +29,5 @@ module _ (bytes clauses nodes : List ℕ) where
       × (ClauseSheet true bytes clauses (decode_header bytes) ⊎ (ClauseSheet false bytes clauses (decode_header bytes) ⊎ TableSheet bytes nodes (decode_header bytes)))
   only_sheets = of.only_sheets bytes clauses nodes
 
-  read_sheet-single : Single sheet_reply (reads_sheet bytes clauses nodes)
+  read_sheet-single : Single (reply_of section_words) (reads_sheet bytes clauses nodes)
   read_sheet-single = of.sheet_single bytes clauses nodes

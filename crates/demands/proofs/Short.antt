@@ -18,8 +18,9 @@ use Rattle.table.specs.Case.{table_says}
 use Rattle.cube.specs.Cube.{dnf}
 use Rattle.rule.specs.Rule.{short_list, short_fits}
 use Rattle.rule.proofs.Tests.{short-means}
-use Rattle.listing.specs.Listed.{listed_reply, capacity, list_answer, lists}
-use Rattle.listing.proofs.ListedLaws.{listed-one}
+use Rattle.listing.specs.Listed.{capacity, list_answer, lists}
+use Rattle.refusal.specs.Told.{number, reply_of}
+use Rattle.refusal.proofs.Single.{number-one}
 use Rattle.listing.proofs.ClauseLaws.{answered-clauses}
 use Rattle.lists.proofs.Listed.{list_in}
 use Rattle.short.specs.Short.{short_findings, short_overs, lists_short}
@@ -50,5 +51,5 @@ module _ (n count : ℕ) (words : List ℕ) (room : ℕ) (out work : List ℕ) w
         → lists_short n count words room out work ≡ list_answer (short_list n (meaning n (nodes count words)))
     short-fits e h = decided ∙ rw (e, le-ltb (capacity out) (length (short_list n (meaning n (nodes count words)))) h)
 
-  to_optimized_dnf-single : Single listed_reply (lists_short n count words room out work)
-  to_optimized_dnf-single = single listed_reply listed-one (lists_short n count words room out work)
+  to_optimized_dnf-single : Single (reply_of number) (lists_short n count words room out work)
+  to_optimized_dnf-single = single (reply_of number) number-one (lists_short n count words room out work)

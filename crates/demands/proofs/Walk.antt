@@ -6,11 +6,12 @@ use mathlib.Core.Bool.{true, false, cond}
 use mathlib.Core.List.{List}
 use Prim.Native.Nat.{ℕ, ◌-◌, ◌≤◌, ◌<◌}
 use lib.ListN.{length, get_or}
+use Rattle.std.specs.Prelude.{Option}
 use Rattle.theory.specs.Clause.{empty_clause}
 use Rattle.theory.specs.Table.{Reduced}
 use Rattle.theory.specs.Words.{nodes}
 use Rattle.refusal.specs.Number.{REDUCED}
-use Rattle.refusal.specs.Verdict.{refused, replied}
+use Rattle.refusal.specs.Verdict.{refused}
 use Rattle.refusal.specs.declared.Refusal.{Refusal}
 use Rattle.refusal.proofs.Single.{Single, single}
 use Rattle.table.specs.Inspection.{inspection_reply, SoundTable}
@@ -19,10 +20,10 @@ use Rattle.paths.specs.Paths.{path_list}
 use Rattle.posting.specs.Posting.{posts_dnf, posting}
 use Rattle.posting.proofs.Chosen as chosen
 use Rattle.walk.specs.declared.BddPathIterator.{BddPathIterator}
-use Rattle.walk.specs.declared.PathStart.{PathStart}
-use Rattle.walk.specs.declared.PathStep.{PathStep}
+use Rattle.valuation.specs.declared.BddPartialValuation.{BddPartialValuation}
 use Rattle.reduced.specs.Reduced.{node_reduced, first_unreduced, admits_walk}
-use Rattle.walk.specs.Walk.{path_step_reply, ended, yields, kth_step, tells, walk_clauses, start_of, words_of, step_of, path_in, moved, refusal_in}
+use Rattle.walk.specs.Step.{path_step_reply, ended, yields, kth_step, tells, walk_clauses, PathStart, start_of, words_of}
+use Rattle.walk.specs.Walk.{refusal_in, Steps}
 use Rattle.reduced.proofs.CheckLaws as check
 use Rattle.walk.proofs.KthLaws as of
 use Rattle.walk.proofs.WalkSingle as one
@@ -65,11 +66,10 @@ module _ (n count : ℕ) (words : List ℕ) where
   new-single = one.new-single n count words
 
 -- a step: what it says, and the walk afterwards
-next-single : (i a b : BddPathIterator) (x y : PathStep)
-    → (path_step_reply x ≡ replied (step_of i.bdd.now (path_in i))) × (a ≡ moved i) → (path_step_reply y ≡ replied (step_of i.bdd.now (path_in i))) × (b ≡ moved i) → (x ≡ y) × (a ≡ b)
+next-single : (i a b : BddPathIterator) (x y : Option BddPartialValuation) → Steps i x a → Steps i y b → (x ≡ y) × (a ≡ b)
 next-single = one.next-single
 
-refusal-single : (i : BddPathIterator) (a b : Refusal) → a ≡ refusal_in i → b ≡ refusal_in i → a ≡ b
+refusal-single : (i : BddPathIterator) (a b : Option Refusal) → a ≡ refusal_in i → b ≡ refusal_in i → a ≡ b
 refusal-single = one.refusal-single
 
 -- the posting choice: its words, and where they start

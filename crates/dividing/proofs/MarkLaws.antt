@@ -1,95 +1,57 @@
 -- Step 3: what `mark_step` returns, place by place, and the loop of `mark_of`.
-use mathlib.Core.Path.{◌≡◌, refl, sym, ap, ap₂, subst, ◌∙◌}
+use mathlib.Core.Path.{◌≡◌, refl, sym, ap, ap₂, ◌∙◌}
 use mathlib.Core.Bool.{Bool, true, false, cond, ◌&&◌}
 use mathlib.Core.List.{List, [], ◌∷◌}
 use Prim.Native.Nat.{ℕ, ◌+◌, ◌*◌, ◌^◌, ◌≤◌, ◌<◌}
 use native.Mathlib.Omega.{arith}
 use lib.Dec.{ltb}
-use lib.ListN.{length, take}
+use lib.ListN.{length}
 use borrow.Author.Tests.{lt-ltb, le-ltb, leb-true}
-use Rattle.theory.specs.Mask.{set_bit}
+use Rattle.std.specs.Prelude.{Option, Some, None}
 use Rattle.theory.specs.Tree.{Tree, cofactor}
 use Rattle.theory.specs.Table.{canon}
 use Rattle.theory.specs.Clause.{marks_of}
-use Rattle.theory.proofs.Marks.{marks_of-zero}
+use Rattle.refusal.specs.Limits.{max_marks}
+use Rattle.valuation.specs.Marks.{mask_bits}
+use Rattle.valuation.proofs.MarkLaws.{within}
 use Rattle.theory.proofs.Truths.{and_true}
-use Rattle.valuation.specs.declared.BddVariable.{BddVariable}
 use Rattle.rule.specs.Rule.{node_total, fewer_nodes, smaller, fewest_nodes, chosen, restrictions, fits, all_fit}
-use Rattle.frame.specs.declared.Size.{Size}
-use Rattle.frame.specs.declared.Made.{Made}
-use Rattle.frame.specs.declared.Made.TheVariants.{Count, Over}
-use Rattle.frame.specs.Held.{Tab, Lies, Operand, Turns}
-use Rattle.frame.proofs.Views.{tab-kept}
-use Rattle.dividing.specs.declared.Marked.{Marked}
-use Rattle.dividing.specs.declared.Marked.TheVariants.{Least, TooLarge}
-use Rattle.dividing.specs.Dividing.{rest_at, try_at, pick_from, Picks, MarkReady, MarkSteps}
-use Rattle.dividing.proofs.FitLaws.{only, operand, lies_at, fits-yes, fits-no, Next}
+use Rattle.held.specs.Held.{Tab}
+use Rattle.held.proofs.HeldLaws.{tab-count}
+use Rattle.dividing.specs.declared.Least.{Least}
+use Rattle.dividing.specs.Dividing.{pick_from, Picks}
+use Rattle.dividing.proofs.FitLaws.{fits-yes, fits-no}
 
 -- ---- one mark
-module _ (q : Size) (f kg m : ℕ) (best least : ℕ) (w : List ℕ) (pre : MarkReady w q f kg) where
-  pub ask_high : Lies q (length w) (try_at q f) × Operand q w (rest_at q f) kg (try_at q f)
-  ask_high = (pre.lies, operand q w _ _ pre.lies (rest_at q f) kg (try_at q f) _ pre.rest.held.tab pre.rest.fits (omega arith))
+module _ (n room : ℕ) (g : Tree) (m best least : ℕ) where
+  pub over_high : room < length (canon n (cofactor m true g)) → (z : Option Least) → z ≡ None → Picks n room g (m ∷ []) best least z
+  unfolding restrictions all_fit
+  over_high h z e = rw e (rw (fits-no n room (cofactor m true g) h))
 
-  module _ (w₁ : List ℕ) (k₁ : take (try_at q f) w₁ ≡ take (try_at q f) w) (l₁ : length w₁ ≡ length w) (r₁ : Made) (t₁ : Turns (cofactor m true) q w w₁ (rest_at q f) kg (try_at q f) r₁) where
-    pub over-high : r₁ ≡ Over → (take (try_at q f) w₁ ≡ take (try_at q f) w) × MarkSteps w q f kg (m ∷ []) best least TooLarge
+  module _ (w₁ : List ℕ) (high : ℕ) (t₁ : Tab n room w₁ high (cofactor m true g)) where
+    pub over_low : room < length (canon n (cofactor m false g)) → (z : Option Least) → z ≡ None → Picks n room g (m ∷ []) best least z
     unfolding restrictions all_fit
-    over-high i = (k₁, λ G tg. rw (fits-no q.room q.n (cofactor m true G) (subst (λ z. Turns (cofactor m true) q w w₁ (rest_at q f) kg (try_at q f) z) i t₁ G tg)))
+    over_low h z e = rw e (rw (fits-yes n room w₁ high (cofactor m true g) t₁, fits-no n room (cofactor m false g) h))
 
-    there : (G : Tree) → Tab q.n w (rest_at q f) kg G → Tab q.n w₁ (rest_at q f) kg G
-    there G tg = tab-kept q.n w (rest_at q f) kg G tg w₁ (try_at q f) (omega (arith, pre.rest.fits, pre.lies.room)) k₁ l₁
+    module _ (w₂ : List ℕ) (low : ℕ) (t₂ : Tab n room w₂ low (cofactor m false g)) where
+      sum_is : high + low ≡ node_total n g m
+      sum_is = ap₂ (λ (a b : ℕ). a + b) (tab-count n room w₁ high (cofactor m true g) t₁) (tab-count n room w₂ low (cofactor m false g) t₂)
 
-    pub ask_low : Lies q (length w₁) (try_at q f) × Operand q w₁ (rest_at q f) kg (try_at q f)
-    ask_low = (
-      lies_at q (length w) (try_at q f) pre.lies (length w₁) (try_at q f) l₁ (omega arith),
-      operand q w₁ _ _ pre.lies (rest_at q f) kg (try_at q f) _ (there pre.rest.held.tree pre.rest.held.tab) pre.rest.fits (omega arith),
-    )
-
-    module _ (k1 : ℕ) (i₁ : r₁ ≡ Count k1) (w₂ : List ℕ) (k₂ : take (try_at q f) w₂ ≡ take (try_at q f) w₁) (r₂ : Made) (t₂ : Turns (cofactor m false) q w₁ w₂ (rest_at q f) kg (try_at q f) r₂) where
-      high : (G : Tree) → Tab q.n w (rest_at q f) kg G → Tab q.n w₁ (try_at q f) k1 (cofactor m true G) × (k1 ≤ q.room)
-      high G tg = subst (λ z. Turns (cofactor m true) q w w₁ (rest_at q f) kg (try_at q f) z) i₁ t₁ G tg
-
-      pub over-low : r₂ ≡ Over → (take (try_at q f) w₂ ≡ take (try_at q f) w) × MarkSteps w q f kg (m ∷ []) best least TooLarge
+      both : all_fit room n (restrictions g (m ∷ [])) ≡ true
       unfolding restrictions all_fit
-      over-low i = (
-        k₂ ∙ k₁,
-        λ G tg.
-            rw (
-              fits-yes q.room q.n k1 (cofactor m true G) (high G tg).0.count (high G tg).1,
-              fits-no q.room q.n (cofactor m false G) (subst (λ z. Turns (cofactor m false) q w₁ w₂ (rest_at q f) kg (try_at q f) z) i t₂ G (there G tg)),
-            ),
-      )
+      both = rw (fits-yes n room w₁ high (cofactor m true g) t₁, fits-yes n room w₂ low (cofactor m false g) t₂)
 
-      module _ (k0 : ℕ) (i₂ : r₂ ≡ Count k0) where
-        low : (G : Tree) → Tab q.n w (rest_at q f) kg G → Tab q.n w₂ (try_at q f) k0 (cofactor m false G) × (k0 ≤ q.room)
-        low G tg = subst (λ z. Turns (cofactor m false) q w₁ w₂ (rest_at q f) kg (try_at q f) z) i₂ t₂ G (there G tg)
+      pub step_new : high + low < least → ◌≡◌ {A = ℕ × ℕ} (m, high + low) (pick_from n g (m ∷ []) best least) × (all_fit room n (restrictions g (m ∷ [])) ≡ true)
+      unfolding pick_from
+      step_new h =
+          let c : ltb (node_total n g m) least ≡ true = lt-ltb (node_total n g m) least (omega (arith, sum_is)) in
+          (rw c (ap (λ a. (m, a)) sum_is), both)
 
-        pub sum_fits : k1 + k0 ≤ 8192
-        sum_fits = omega (arith, (high pre.rest.held.tree pre.rest.held.tab).1, (low pre.rest.held.tree pre.rest.held.tab).1, pre.lies.room, pre.lies.few)
-
-        sum_is : (G : Tree) → Tab q.n w (rest_at q f) kg G → k1 + k0 ≡ node_total q.n G m
-        sum_is G tg = omega (arith, (high G tg).0.count, (low G tg).0.count)
-
-        both : (G : Tree) → Tab q.n w (rest_at q f) kg G → all_fit q.room q.n (restrictions G (m ∷ [])) ≡ true
-        unfolding restrictions all_fit
-        both G tg = rw (fits-yes q.room q.n k1 (cofactor m true G) (high G tg).0.count (high G tg).1, fits-yes q.room q.n k0 (cofactor m false G) (low G tg).0.count (low G tg).1)
-
-        pub step-new : (x : BddVariable) → x.0 ≡ m → k1 + k0 < least → (take (try_at q f) w₂ ≡ take (try_at q f) w) × MarkSteps w q f kg (m ∷ []) best least (Least x (k1 + k0))
-        unfolding pick_from
-        step-new x e h = (
-          k₂ ∙ k₁,
-          λ G tg.
-              let c : ltb (node_total q.n G m) least ≡ true = lt-ltb (node_total q.n G m) least (omega (arith, sum_is G tg)) in
-              (rw c (ap₂ (λ a b. (a, b)) e (sum_is G tg)), both G tg),
-        )
-
-        pub step_old : (x : BddVariable) → x.0 ≡ best → least ≤ k1 + k0 → (take (try_at q f) w₂ ≡ take (try_at q f) w) × MarkSteps w q f kg (m ∷ []) best least (Least x least)
-        unfolding pick_from
-        step_old x e h = (
-          k₂ ∙ k₁,
-          λ G tg.
-              let c : ltb (node_total q.n G m) least ≡ false = le-ltb (node_total q.n G m) least (omega (arith, sum_is G tg)) in
-              (rw c (ap (λ a. (a, least)) e), both G tg),
-        )
+      pub step_old : least ≤ high + low → ◌≡◌ {A = ℕ × ℕ} (best, least) (pick_from n g (m ∷ []) best least) × (all_fit room n (restrictions g (m ∷ [])) ≡ true)
+      unfolding pick_from
+      step_old h =
+          let c : ltb (node_total n g m) least ≡ false = le-ltb (node_total n g m) least (omega (arith, sum_is)) in
+          (rw c, both)
 
 -- ---- all marks
 pick_cons : (n : ℕ) (g : Tree) (x : ℕ) (xs : List ℕ) (best least b l : ℕ) → ◌≡◌ {A = ℕ × ℕ} (b, l) (pick_from n g (x ∷ []) best least) → pick_from n g (x ∷ xs) best least ≡ pick_from n g xs b l
@@ -130,60 +92,35 @@ pick_chosen room n g (x ∷ xs) h =
     let u : ltb (node_total n g x) (2 * room + 1) ≡ true = lt-ltb (node_total n g x) (2 * room + 1) (omega (arith, leb-true (length (canon n (cofactor x true g))) room a.0, leb-true (length (canon n (cofactor x false g))) room b.0)) in
     rw u (pick_fewest n g xs x)
 
--- the mark so far, and what is still to be done from it is what was to be done at first
-pub record MarkInv (q : Size) (w₀ w : List ℕ) (f kg s₀ best least s : ℕ) : Type 0 where
-  pub long : length w ≡ length w₀
-  pub low : take (try_at q f) w ≡ take (try_at q f) w₀
-  pub small : s < 2 ^ q.n
-  pub tree : Tree
-  pub tab : Tab q.n w₀ (rest_at q f) kg tree
-  pub goes : pick_from q.n tree (marks_of q.n s) best least ≡ pick_from q.n tree (marks_of q.n s₀) 0 (2 * q.room + 1)
-  pub calls : all_fit q.room q.n (restrictions tree (marks_of q.n s)) ≡ all_fit q.room q.n (restrictions tree (marks_of q.n s₀))
+-- from the mark so far, what is still to be done is what was to be done at first
+pub record MarkInv (n room : ℕ) (g : Tree) (s₀ : ℕ) (best : Least) (xs : List ℕ) : Type 0 where
+  pub goes : pick_from n g xs best.mark.0 best.total ≡ pick_from n g (marks_of n s₀) 0 (2 * room + 1)
+  pub calls : all_fit room n (restrictions g xs) ≡ all_fit room n (restrictions g (marks_of n s₀))
 
-module _ (q : Size) (f kg s₀ : ℕ) (w : List ℕ) (pre : MarkReady w q f kg) where
-  pub mark_start : s₀ < 2 ^ q.n → MarkInv q w w f kg s₀ 0 (2 * q.room + 1) s₀
-  mark_start h = record { long = refl; low = refl; small = h; tree = pre.rest.held.tree; tab = pre.rest.held.tab; goes = refl; calls = refl }
+pub mark_start : (n room : ℕ) (g : Tree) (s₀ : ℕ) → n ≤ max_marks → s₀ < 2 ^ n → (xs : List ℕ) → xs ≡ marks_of mask_bits s₀ → MarkInv n room g s₀ (record { mark = record { 0 = 0 }; total = 2 * room + 1 }) xs
+mark_start n room g s₀ l h xs e =
+    let is : xs ≡ marks_of n s₀ = e ∙ within mask_bits n s₀ (omega arith) h in
+    record { goes = rw is; calls = rw is }
 
-  module _ (w₁ : List ℕ) (best least rest : ℕ) (inv : MarkInv q w w₁ f kg s₀ best least rest) where
-    here : Tab q.n w₁ (rest_at q f) kg inv.tree
-    here = tab-kept q.n w (rest_at q f) kg inv.tree inv.tab w₁ (try_at q f) (omega (arith, pre.rest.fits, pre.lies.room)) inv.low inv.long
+module _ (n room : ℕ) (g : Tree) (s₀ : ℕ) (best : Least) (xs : List ℕ) (inv : MarkInv n room g s₀ best xs) where
+  pub mark_end : xs ≡ [] → Picks n room g (marks_of n s₀) 0 (2 * room + 1) (Some best)
+  unfolding pick_from restrictions all_fit
+  mark_end none =
+      let z : ◌≡◌ {A = ℕ × ℕ} (best.mark.0, best.total) (pick_from n g (marks_of n s₀) 0 (2 * room + 1)) = rw none at inv.goes in
+      let y : true ≡ all_fit room n (restrictions g (marks_of n s₀)) = rw none at inv.calls in
+      (z, sym y)
 
-    pub ask_step : MarkReady w₁ q f kg
-    ask_step = record {
-      rest = record { held = record { tree = inv.tree; tab = here }; fits = pre.rest.fits };
-      lies = lies_at q (length w) (try_at q f) pre.lies (length w₁) (try_at q f) inv.long (omega arith);
-    }
+  module _ (m : ℕ) (next : List ℕ) (splits : xs ≡ m ∷ next) where
+    after : (v : Bool) → all_fit room n (restrictions g (m ∷ [])) ≡ v → all_fit room n (restrictions g (marks_of n s₀)) ≡ v && all_fit room n (restrictions g next)
+    after v e = sym inv.calls ∙ ap (λ ys. all_fit room n (restrictions g ys)) splits ∙ two_cons room n g m _
+        ∙ ap (λ a. a && all_fit room n (restrictions g next)) e
 
-    pub mark-end : (x : BddVariable) → x.0 ≡ best → rest ≡ 0 → (take (try_at q f) w₁ ≡ take (try_at q f) w) × MarkSteps w q f kg (marks_of q.n s₀) 0 (2 * q.room + 1) (Least x least)
-    unfolding pick_from restrictions all_fit
-    mark-end x ex h =
-        let none : marks_of q.n rest ≡ [] = ap (marks_of q.n) h ∙ marks_of-zero q.n in
-        let z : ◌≡◌ {A = ℕ × ℕ} (best, least) (pick_from q.n inv.tree (marks_of q.n s₀) 0 (2 * q.room + 1)) = rw none at inv.goes in
-        let y : true ≡ all_fit q.room q.n (restrictions inv.tree (marks_of q.n s₀)) = rw none at inv.calls in
-        (inv.low, only q.n w (rest_at q f) kg inv.tree inv.tab (λ G. Picks q G (marks_of q.n s₀) 0 (2 * q.room + 1) (Least x least)) (ap (λ a. (a, least)) ex ∙ z, sym y))
+    pub mark_again : (l : Least) → Picks n room g (m ∷ []) best.mark.0 best.total (Some l) → MarkInv n room g s₀ l next
+    mark_again l d =
+        record {
+          goes = sym (ap (λ ys. pick_from n g ys best.mark.0 best.total) splits ∙ pick_cons n g m _ best.mark.0 best.total l.mark.0 l.total d.0) ∙ inv.goes;
+          calls = sym (after true d.1);
+        }
 
-    module _ (m : ℕ) (nx : Next q.n rest m) (w₂ : List ℕ) (k₂ : take (try_at q f) w₂ ≡ take (try_at q f) w₁) (l₂ : length w₂ ≡ length w₁) (r : Marked) (st : MarkSteps w₁ q f kg (m ∷ []) best least r) where
-      stepped : (z : Marked) → r ≡ z → Picks q inv.tree (m ∷ []) best least z
-      stepped z e = subst (λ z. Picks q inv.tree (m ∷ []) best least z) e (st inv.tree here)
-
-      after : (v : Bool) → all_fit q.room q.n (restrictions inv.tree (m ∷ [])) ≡ v
-          → all_fit q.room q.n (restrictions inv.tree (marks_of q.n s₀)) ≡ v && all_fit q.room q.n (restrictions inv.tree (marks_of q.n (set_bit m false rest)))
-      after v e = sym inv.calls ∙ ap (λ xs. all_fit q.room q.n (restrictions inv.tree xs)) nx.splits ∙ two_cons q.room q.n inv.tree m _
-          ∙ ap (λ a. a && all_fit q.room q.n (restrictions inv.tree (marks_of q.n (set_bit m false rest)))) e
-
-      pub mark_again : (x : BddVariable) (t : ℕ) → r ≡ Least x t → (s' : ℕ) → s' ≡ set_bit m false rest → MarkInv q w w₂ f kg s₀ x.0 t s'
-      mark_again x t e s' es =
-          let d : Picks q inv.tree (m ∷ []) best least (Least x t) = stepped (Least x t) e in
-          rw es
-          (record {
-            long = l₂ ∙ inv.long;
-            low = k₂ ∙ inv.low;
-            small = nx.small;
-            tree = inv.tree;
-            tab = inv.tab;
-            goes = sym (ap (λ xs. pick_from q.n inv.tree xs best least) nx.splits ∙ pick_cons q.n inv.tree m _ best least x.0 t d.0) ∙ inv.goes;
-            calls = sym (after true d.1);
-          })
-
-      pub mark-over : r ≡ TooLarge → (take (try_at q f) w₂ ≡ take (try_at q f) w) × MarkSteps w q f kg (marks_of q.n s₀) 0 (2 * q.room + 1) TooLarge
-      mark-over e = (k₂ ∙ inv.low, only q.n w (rest_at q f) kg inv.tree inv.tab (λ G. all_fit q.room q.n (restrictions G (marks_of q.n s₀)) ≡ false) (after false (stepped TooLarge e)))
+    pub mark_over : all_fit room n (restrictions g (m ∷ [])) ≡ false → (z : Option Least) → z ≡ None → Picks n room g (marks_of n s₀) 0 (2 * room + 1) z
+    mark_over d z e = rw e (after false d)

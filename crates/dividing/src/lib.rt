@@ -1,197 +1,234 @@
-// One step of the short list's rule, in a frame of four tables in one slice: the function, its core, what is left beside it, and one to try. Inner.
-// In this order every write lies above all that is still needed.
+// One step of the short list's rule: a function's core, what is left beside it, and the mark that is set next. Inner.
 #![tactic(auto)]
 
-ghost use Rattle.std.specs.Prelude.{◌≡◌, [], ◌∷◌, ◌+◌, ◌*◌, ◌<◌, ◌^◌, take};
+ghost use Rattle.std.specs.Prelude.{◌≡◌, [], ◌∷◌, ◌+◌, ◌*◌, ◌<◌, ◌≤◌, ◌^◌, length, cond};
+ghost use Rattle.theory.specs.Tree.{for_all_mark, exists_mark, support_of};
+ghost use Rattle.theory.specs.Words.{stride};
 ghost use Rattle.theory.specs.Clause.{marks_of};
-ghost use Rattle.dividing.specs.Dividing.{core_at, rest_at, try_at, InFrame, Standing, CoreSteps, Cores, SupportAt, RestSteps, RestReady, Rests, MarkReady, MarkSteps, DivideReady, Divides};
+ghost use Rattle.rule.specs.Rule.{support_marks, inside, core_of, for_alls, larger, rest_of, rest_calls};
+ghost use Rattle.held.specs.Held.{Canonical, tree_in};
+ghost use Rattle.held.specs.Trees.{tree_of};
+ghost use Rattle.dividing.specs.Dividing.{Inner, Standing, CoreGiven, Coring, RestGiven, Picks, Divides};
 
-use frame::{Made, Size};
-use table::NODE_WORDS;
+use held::Function;
+use table::BddPointer;
 use valuation::BddVariable;
 
 // The core so far, by its nodes and its cases.
 #[derive(Clone, Copy)]
-pub enum Cored {
-    Best(u32, u64),
-    TooLarge,
+pub struct Core {
+    pub count: usize,
+    pub cases: u64,
 }
 
 // The mark so far, and its node total.
 #[derive(Clone, Copy)]
-pub enum Marked {
-    Least(BddVariable, u32),
-    TooLarge,
+pub struct Least {
+    pub mark: BddVariable,
+    pub total: usize,
 }
 
 // The node counts of the core and of what is left beside it, and the mark.
 #[derive(Clone, Copy)]
 pub struct Parts {
-    pub core: u32,
-    pub rest: u32,
+    pub core: usize,
+    pub rest: usize,
     pub mark: BddVariable,
 }
 
-#[derive(Clone, Copy)]
-pub enum Divided {
-    Into(Parts),
-    TooLarge,
-}
-
 // Step 1 for one mark.
-fn core_step(w: &mut [u32], q: Size, f: usize, kf: u32, m: BddVariable, kc: u32, most: u64) -> Cored
-    requires { InFrame w.old q f kf × Standing w.old q (core_at q f) kc × (m.0 < q.n) }
-    ensures w_unchanged { take (core_at q f) w.new ≡ take (core_at q f) w.old }
-    ensures core_steps { CoreSteps w.old w.new q f kf m.0 kc most result }
+fn core_step(
+    function: Function,
+    m: BddVariable,
+    best: Core,
+    core: &mut [u32],
+    tried: &mut [u32],
+    memo: &mut [u32],
+) -> Option<Core>
+    requires standing { Standing function.n function.room core.old best }
+    requires core_place { stride * function.room ≤ length core.old }
+    requires tried_place { stride * function.room ≤ length tried.old }
+    requires memory { 12 * function.room ≤ length memo.old }
+    ensures { CoreGiven function.entry.n function.entry.room core.new (larger (tree_in function.entry.n core.old best.count) (for_all_mark m.0 (tree_of function.entry))) (for_all_mark m.0 (tree_of function.entry) ∷ []) result }
 {
-    let place = NODE_WORDS * q.wide;
-    let tried = f + 3 * place;
-    let Made::Count(ke) = frame_join::all_in(w, q, f, kf, m.0, tried) else {
-        return Cored::TooLarge;
+    let count = function.for_all(m, tried, memo)?;
+    let all = Function {
+        n: function.n,
+        room: function.room,
+        words: &*tried,
+        count,
     };
-    let cases = frame_counts::cases_in(w, q, tried, ke);
-    if cases > most {
-        frame::copy_in(w, q, tried, ke, f + place);
-        return Cored::Best(ke, cases);
+    let cases = all.cases(memo);
+    if cases > best.cases {
+        all.copy_to(core);
+        return Some(Core { count, cases });
     }
-    Cored::Best(kc, most)
+    Some(best)
 }
 
 // Step 1: the core; false, of one node and no cases, if there is none.
-fn core_of(w: &mut [u32], q: Size, f: usize, kf: u32, s: u64) -> Cored
-    requires { InFrame w.old q f kf × SupportAt w.old q f kf s }
-    ensures w_unchanged { take (core_at q f) w.new ≡ take (core_at q f) w.old }
-    ensures cores { Cores w.old w.new q f kf result }
+fn core_of(
+    function: Function,
+    s: u64,
+    core: &mut [u32],
+    tried: &mut [u32],
+    memo: &mut [u32],
+) -> Option<Core>
+    requires support { s ≡ support_of function.n (tree_of function) }
+    requires core_place { stride * function.room ≤ length core.old }
+    requires tried_place { stride * function.room ≤ length tried.old }
+    requires memory { 12 * function.room ≤ length memo.old }
+    ensures { CoreGiven function.entry.n function.entry.room core.new (core_of function.entry.n (tree_of function.entry)) (for_alls (tree_of function.entry) (support_marks function.entry.n (tree_of function.entry))) result }
 {
-    frame::false_in(w, q, f + NODE_WORDS * q.wide);
-    let mut kc: u32 = 1;
-    let mut most: u64 = 0;
-    let mut rest = s;
-    while rest != 0 {
-        let m = BddVariable(u64::trailing_zeros(rest) as u16);
-        let Cored::Best(k, c) = core_step(w, q, f, kf, m, kc, most) else {
-            return Cored::TooLarge;
-        };
-        kc = k;
-        most = c;
-        rest = valuation::set_bit(rest, m, false);
+    table::put_node(
+        core,
+        0,
+        BddVariable(function.n),
+        BddPointer(0),
+        BddPointer(0),
+    );
+    let mut best = Core { count: 1, cases: 0 };
+    for m in valuation::marks_of(s) {
+        best = core_step(function, m, best, core, tried, memo)?;
     }
-    Cored::Best(kc, most)
+    Some(best)
 }
 
 // Step 2 for one mark: it drops out if what is then left says yes nowhere but the function does.
-fn rest_step(w: &mut [u32], q: Size, f: usize, kf: u32, m: BddVariable, kg: u32) -> Made
-    requires { InFrame w.old q f kf × Standing w.old q (rest_at q f) kg × (m.0 < q.n) }
-    ensures w_unchanged { take (rest_at q f) w.new ≡ take (rest_at q f) w.old }
-    ensures rest_steps { RestSteps w.old w.new q f kf m.0 kg result }
+fn rest_step(
+    function: Function,
+    m: BddVariable,
+    count: usize,
+    rest: &mut [u32],
+    tried: &mut [u32],
+    memo: &mut [u32],
+) -> Option<usize>
+    requires standing { Canonical function.n function.room rest.old count }
+    requires rest_place { stride * function.room ≤ length rest.old }
+    requires tried_place { stride * function.room ≤ length tried.old }
+    requires memory { 12 * function.room ≤ length memo.old }
+    ensures { RestGiven function.entry.n function.entry.room rest.new (cond (inside (exists_mark m.0 (tree_in function.entry.n rest.old count)) (tree_of function.entry)) (exists_mark m.0 (tree_in function.entry.n rest.old count)) (tree_in function.entry.n rest.old count)) (exists_mark m.0 (tree_in function.entry.n rest.old count) ∷ []) result }
 {
-    let place = NODE_WORDS * q.wide;
-    let left = f + 2 * place;
-    let tried = f + 3 * place;
-    let Made::Count(ke) = frame_join::some_in(w, q, left, kg, m.0, tried) else {
-        return Made::Over;
+    let left = Function {
+        n: function.n,
+        room: function.room,
+        words: &*rest,
+        count,
     };
-    if frame_implies::implies_in(w, q, tried, ke, f, kf) {
-        frame::copy_in(w, q, tried, ke, left);
-        return Made::Count(ke);
+    let fewer = left.exists(m, tried, memo)?;
+    let some = Function {
+        n: function.n,
+        room: function.room,
+        words: &*tried,
+        count: fewer,
+    };
+    if some.implies(function, memo) {
+        some.copy_to(rest);
+        return Some(fewer);
     }
-    Made::Count(kg)
+    Some(count)
 }
 
 // Step 2: what is left beside the core; the function itself if there is no core.
-fn rest_of(w: &mut [u32], q: Size, f: usize, kf: u32, kc: u32, most: u64) -> Made
-    requires { RestReady w.old q f kf kc most }
-    ensures w_unchanged { take (rest_at q f) w.new ≡ take (rest_at q f) w.old }
-    ensures rests { Rests w.old w.new q f kf kc most result }
+fn rest_of(
+    function: Function,
+    core: Function,
+    cases: u64,
+    rest: &mut [u32],
+    tried: &mut [u32],
+    memo: &mut [u32],
+) -> Option<usize>
+    requires coring { Coring function.n function.room (tree_of function) core.n core.room (tree_of core) cases }
+    requires rest_place { stride * function.room ≤ length rest.old }
+    requires tried_place { stride * function.room ≤ length tried.old }
+    requires memory { 12 * function.room ≤ length memo.old }
+    ensures { RestGiven function.entry.n function.entry.room rest.new (rest_of function.entry.n (tree_of function.entry)) (rest_calls function.entry.n (tree_of function.entry)) result }
 {
-    let place = NODE_WORDS * q.wide;
-    let core = f + place;
-    let left = f + 2 * place;
-    if most == 0 {
-        frame::copy_in(w, q, f, kf, left);
-        return Made::Count(kf);
+    if cases == 0 {
+        function.copy_to(rest);
+        return Some(function.count);
     }
-    let Made::Count(k0) = frame_join::and_not_in(w, q, f, kf, core, kc, left) else {
-        return Made::Over;
-    };
-    let mut kg = k0;
-    let mut rest = frame_counts::support_in(&*w, q, core, kc);
-    while rest != 0 {
-        let m = BddVariable(u64::trailing_zeros(rest) as u16);
-        let Made::Count(k) = rest_step(w, q, f, kf, m, kg) else {
-            return Made::Over;
-        };
-        kg = k;
-        rest = valuation::set_bit(rest, m, false);
+    let mut count = function.and_not(core, rest, memo)?;
+    for m in valuation::marks_of(core.support()) {
+        count = rest_step(function, m, count, rest, tried, memo)?;
     }
-    Made::Count(kg)
+    Some(count)
 }
 
 // Step 3 for one mark.
 fn mark_step(
-    w: &mut [u32],
-    q: Size,
-    f: usize,
-    kg: u32,
+    rest: Function,
     m: BddVariable,
-    best: BddVariable,
-    least: u32,
-) -> Marked
-    requires { MarkReady w.old q f kg × (m.0 < q.n) }
-    ensures w_unchanged { take (try_at q f) w.new ≡ take (try_at q f) w.old }
-    ensures mark_steps { MarkSteps w.old q f kg (m.0 ∷ []) best.0 least result }
+    best: Least,
+    tried: &mut [u32],
+    memo: &mut [u32],
+) -> Option<Least>
+    requires tried_place { stride * rest.room ≤ length tried.old }
+    requires memory { 12 * rest.room ≤ length memo.old }
+    ensures { Picks rest.entry.n rest.entry.room (tree_of rest.entry) (m.0 ∷ []) best.mark.0 best.total result }
 {
-    let place = NODE_WORDS * q.wide;
-    let left = f + 2 * place;
-    let tried = f + 3 * place;
-    let Made::Count(k1) = frame_carry::fix_in(w, q, left, kg, m.0, true, tried) else {
-        return Marked::TooLarge;
-    };
-    let Made::Count(k0) = frame_carry::fix_in(w, q, left, kg, m.0, false, tried) else {
-        return Marked::TooLarge;
-    };
-    if k1 + k0 < least {
-        return Marked::Least(m, k1 + k0);
+    let high = rest.fixed(m, true, tried, memo)?;
+    let low = rest.fixed(m, false, tried, memo)?;
+    if high + low < best.total {
+        return Some(Least {
+            mark: m,
+            total: high + low,
+        });
     }
-    Marked::Least(best, least)
+    Some(best)
 }
 
 // Step 3: the mark of the smallest node total; a total over 2·room is none yet.
-fn mark_of(w: &mut [u32], q: Size, f: usize, kg: u32, s: u64) -> Marked
-    requires { MarkReady w.old q f kg × (s < 2 ^ q.n) }
-    ensures w_unchanged { take (try_at q f) w.new ≡ take (try_at q f) w.old }
-    ensures mark_steps { MarkSteps w.old q f kg (marks_of q.n s) 0 (2 * q.room + 1) result }
+fn mark_of(rest: Function, s: u64, tried: &mut [u32], memo: &mut [u32]) -> Option<Least>
+    requires marks { s < 2 ^ rest.n }
+    requires tried_place { stride * rest.room ≤ length tried.old }
+    requires memory { 12 * rest.room ≤ length memo.old }
+    ensures { Picks rest.entry.n rest.entry.room (tree_of rest.entry) (marks_of rest.entry.n s) 0 (2 * rest.entry.room + 1) result }
 {
-    let mut best = BddVariable(0);
-    let mut least: u32 = 2 * q.room + 1;
-    let mut rest = s;
-    while rest != 0 {
-        let m = BddVariable(u64::trailing_zeros(rest) as u16);
-        let Marked::Least(x, t) = mark_step(w, q, f, kg, m, best, least) else {
-            return Marked::TooLarge;
-        };
-        best = x;
-        least = t;
-        rest = valuation::set_bit(rest, m, false);
+    let mut best = Least {
+        mark: BddVariable(0),
+        total: 2 * rest.room + 1,
+    };
+    for m in valuation::marks_of(s) {
+        best = mark_step(rest, m, best, tried, memo)?;
     }
-    Marked::Least(best, least)
+    Some(best)
 }
 
-// The three steps of the rule at a function that is no constant.
-pub fn divide(w: &mut [u32], q: Size, f: usize, kf: u32) -> Divided
-    requires { DivideReady w.old q f kf }
-    ensures w_unchanged { take (core_at q f) w.new ≡ take (core_at q f) w.old }
-    ensures divides { Divides w.old w.new q f kf result }
+// The three steps of the rule at a function that is no constant: its core and what is left stand in the words lent for them.
+pub fn divide(
+    function: Function,
+    core: &mut [u32],
+    rest: &mut [u32],
+    tried: &mut [u32],
+    memo: &mut [u32],
+) -> Option<Parts>
+    requires inner { Inner function.n (tree_of function) }
+    requires core_place { stride * function.room ≤ length core.old }
+    requires rest_place { stride * function.room ≤ length rest.old }
+    requires tried_place { stride * function.room ≤ length tried.old }
+    requires memory { 12 * function.room ≤ length memo.old }
+    ensures { Divides function.entry.n function.entry.room (tree_of function.entry) core.new rest.new result }
 {
-    let s = frame_counts::support_in(&*w, q, f, kf);
-    let Cored::Best(core, most) = core_of(w, q, f, kf, s) else {
-        return Divided::TooLarge;
+    let s = function.support();
+    let best = core_of(function, s, core, tried, memo)?;
+    let core = Function {
+        n: function.n,
+        room: function.room,
+        words: &*core,
+        count: best.count,
     };
-    let Made::Count(rest) = rest_of(w, q, f, kf, core, most) else {
-        return Divided::TooLarge;
+    let count = rest_of(function, core, best.cases, rest, tried, memo)?;
+    let left = Function {
+        n: function.n,
+        room: function.room,
+        words: &*rest,
+        count,
     };
-    let Marked::Least(mark, least) = mark_of(w, q, f, rest, s) else {
-        return Divided::TooLarge;
-    };
-    Divided::Into(Parts { core, rest, mark })
+    let least = mark_of(left, s, tried, memo)?;
+    Some(Parts {
+        core: best.count,
+        rest: count,
+        mark: least.mark,
+    })
 }

@@ -1,6 +1,6 @@
 // The public entries for C and Rust: numbers and slices in, the reply into a lent buffer.
 // Each call returns 1; where the reply's buffer has under 64 words it returns 0 and touches nothing.
-#![tactic(auto)]
+#![tactic(auto, unfolding(replies::specs::Replies::lent_after, replies::specs::Replies::buffer_with))]
 
 ghost use Rattle.std.specs.Prelude.{◌≡◌, not, eqb};
 ghost use Rattle.table.specs.Inspection.{inspects};
@@ -14,23 +14,20 @@ ghost use Rattle.cover.specs.Cover.{checks_cover};
 ghost use Rattle.lists.specs.Lists.{lists_dnf, lists_cnf};
 ghost use Rattle.sheet.specs.Sheet.{reads_sheet};
 ghost use Rattle.reduced.specs.Reduced.{admits_walk};
-ghost use Rattle.walk.specs.Walk.{tells, walk_clauses};
+ghost use Rattle.walk.specs.Step.{tells, walk_clauses};
 ghost use Rattle.short.specs.Short.{lists_short};
 ghost use Rattle.unary.specs.Unary.{negates, restricts, supports, counts_cases};
 ghost use Rattle.replies.specs.Replies.{Exported, ExportedWork, ExportedPair, reply_words, accepted, buffer_with, reply_after};
 ghost use Rattle.exports.specs.Exports.{posts};
 
-use replies::REPLY_WORDS;
+use replies::{Part, REPLY_WORDS};
 use valuation::{BddPartialValuation, BddVariable};
 
 #[unsafe(no_mangle)]
 pub extern "C" fn collartug_inspect(n: u16, count: usize, bdd: &[u32], reply: &mut [u64]) -> u64
     ensures { (result ≡ accepted reply.old) × (reply.new ≡ reply_after (inspects n count bdd.now) reply.old) }
 {
-    replies::write_reply(
-        reply,
-        replies::inspection_written(table::inspect(n, count, bdd)),
-    )
+    replies::write_answer(reply, table::inspect(n, count, bdd).answer())
 }
 
 #[unsafe(no_mangle)]
@@ -43,10 +40,7 @@ pub extern "C" fn collartug_eval_in(
 ) -> u64
     ensures { (result ≡ accepted reply.old) × (reply.new ≡ reply_after (evaluates n count bdd.now case) reply.old) }
 {
-    replies::write_reply(
-        reply,
-        replies::truth_written(table::eval_in(n, count, bdd, case)),
-    )
+    replies::write_answer(reply, table::eval_in(n, count, bdd, case))
 }
 
 #[unsafe(no_mangle)]
@@ -54,7 +48,7 @@ pub extern "C" fn collartug_is_empty(fixed: u64, values: u64, reply: &mut [u64])
     ensures { (result ≡ accepted reply.old) × (reply.new ≡ reply_after (asks_empty (clause fixed values)) reply.old) }
 {
     let v = BddPartialValuation { fixed, values };
-    replies::write_reply(reply, replies::truth_written(v.is_empty()))
+    replies::write_answer(reply, v.is_empty())
 }
 
 #[unsafe(no_mangle)]
@@ -62,7 +56,7 @@ pub extern "C" fn collartug_cardinality(fixed: u64, values: u64, reply: &mut [u6
     ensures { (result ≡ accepted reply.old) × (reply.new ≡ reply_after (counts_fixed (clause fixed values)) reply.old) }
 {
     let v = BddPartialValuation { fixed, values };
-    replies::write_reply(reply, replies::counted_written(v.cardinality()))
+    replies::write_answer(reply, v.cardinality())
 }
 
 #[unsafe(no_mangle)]
@@ -70,7 +64,7 @@ pub extern "C" fn collartug_last_fixed_variable(fixed: u64, values: u64, reply: 
     ensures { (result ≡ accepted reply.old) × (reply.new ≡ reply_after (finds_last (clause fixed values)) reply.old) }
 {
     let v = BddPartialValuation { fixed, values };
-    replies::write_reply(reply, replies::last_fixed_written(v.last_fixed_variable()))
+    replies::write_answer(reply, v.last_fixed_variable())
 }
 
 #[unsafe(no_mangle)]
@@ -78,7 +72,7 @@ pub extern "C" fn collartug_get_value(fixed: u64, values: u64, id: u16, reply: &
     ensures { (result ≡ accepted reply.old) × (reply.new ≡ reply_after (gets_value (clause fixed values) id) reply.old) }
 {
     let v = BddPartialValuation { fixed, values };
-    replies::write_reply(reply, replies::lookup_written(v.get_value(BddVariable(id))))
+    replies::write_answer(reply, v.get_value(BddVariable(id)).answer())
 }
 
 #[unsafe(no_mangle)]
@@ -86,7 +80,7 @@ pub extern "C" fn collartug_has_value(fixed: u64, values: u64, id: u16, reply: &
     ensures { (result ≡ accepted reply.old) × (reply.new ≡ reply_after (asks_value (clause fixed values) id) reply.old) }
 {
     let v = BddPartialValuation { fixed, values };
-    replies::write_reply(reply, replies::truth_written(v.has_value(BddVariable(id))))
+    replies::write_answer(reply, v.has_value(BddVariable(id)))
 }
 
 #[unsafe(no_mangle)]
@@ -100,10 +94,7 @@ pub extern "C" fn collartug_set_value(
     ensures { (result ≡ accepted reply.old) × (reply.new ≡ reply_after (sets_value (clause fixed values) id (not (eqb value 0))) reply.old) }
 {
     let v = BddPartialValuation { fixed, values };
-    replies::write_reply(
-        reply,
-        replies::updated_written(v.set_value(BddVariable(id), value != 0)),
-    )
+    replies::write_answer(reply, v.set_value(BddVariable(id), value != 0))
 }
 
 #[unsafe(no_mangle)]
@@ -111,10 +102,7 @@ pub extern "C" fn collartug_unset_value(fixed: u64, values: u64, id: u16, reply:
     ensures { (result ≡ accepted reply.old) × (reply.new ≡ reply_after (unsets_value (clause fixed values) id) reply.old) }
 {
     let v = BddPartialValuation { fixed, values };
-    replies::write_reply(
-        reply,
-        replies::updated_written(v.unset_value(BddVariable(id))),
-    )
+    replies::write_answer(reply, v.unset_value(BddVariable(id)))
 }
 
 #[unsafe(no_mangle)]
@@ -132,7 +120,7 @@ pub extern "C" fn collartug_extends(
         fixed: other_fixed,
         values: other_values,
     };
-    replies::write_reply(reply, replies::truth_written(v.extends(other)))
+    replies::write_answer(reply, v.extends(other))
 }
 
 #[unsafe(no_mangle)]
@@ -150,37 +138,29 @@ pub extern "C" fn collartug_eq(
         fixed: other_fixed,
         values: other_values,
     };
-    replies::write_reply(reply, replies::truth_written(v.eq(other)))
+    replies::write_answer(reply, v.eq(other))
 }
 
 #[unsafe(no_mangle)]
 pub extern "C" fn collartug_empty(reply: &mut [u64]) -> u64
     ensures { (result ≡ accepted reply.old) × (reply.new ≡ reply_after (says_clause (clause 0 0)) reply.old) }
 {
-    let v = BddPartialValuation::empty();
-    replies::write_reply(reply, replies::pair_written(v.fixed, v.values))
+    replies::write_answer(reply, Ok(BddPartialValuation::empty()))
 }
 
 #[unsafe(no_mangle)]
 pub extern "C" fn collartug_from_values(values: &[u32], reply: &mut [u64]) -> u64
     ensures { (result ≡ accepted reply.old) × (reply.new ≡ reply_after (gathers_values values.now) reply.old) }
 {
-    replies::write_reply(
-        reply,
-        replies::updated_written(BddPartialValuation::from_values(values)),
-    )
+    replies::write_answer(reply, BddPartialValuation::from_values(values))
 }
 
 #[unsafe(no_mangle)]
 pub extern "C" fn collartug_to_values(fixed: u64, values: u64, reply: &mut [u64]) -> u64
     ensures { (result ≡ accepted reply.old) × (reply.new ≡ buffer_with (reply_words (replied_in 61 (lists_values (clause fixed values)))) reply.old) }
 {
-    if reply.len() < REPLY_WORDS {
-        return 0;
-    }
     let v = BddPartialValuation { fixed, values };
-    replies::write_values(reply, v.to_values());
-    1
+    replies::write_answer(reply, v.to_values())
 }
 
 #[unsafe(no_mangle)]
@@ -200,8 +180,10 @@ pub extern "C" fn collartug_and(
     if reply.len() < REPLY_WORDS {
         return 0;
     }
-    let made = operators::and(n, left_count, left, right_count, right, room, out, work);
-    replies::write_reply(reply, replies::made_written(made))
+    replies::write_answer(
+        reply,
+        operators::and(n, left_count, left, right_count, right, room, out, work),
+    )
 }
 
 #[unsafe(no_mangle)]
@@ -221,8 +203,10 @@ pub extern "C" fn collartug_or(
     if reply.len() < REPLY_WORDS {
         return 0;
     }
-    let made = operators::or(n, left_count, left, right_count, right, room, out, work);
-    replies::write_reply(reply, replies::made_written(made))
+    replies::write_answer(
+        reply,
+        operators::or(n, left_count, left, right_count, right, room, out, work),
+    )
 }
 
 #[unsafe(no_mangle)]
@@ -242,8 +226,10 @@ pub extern "C" fn collartug_and_not(
     if reply.len() < REPLY_WORDS {
         return 0;
     }
-    let made = operators::and_not(n, left_count, left, right_count, right, room, out, work);
-    replies::write_reply(reply, replies::made_written(made))
+    replies::write_answer(
+        reply,
+        operators::and_not(n, left_count, left, right_count, right, room, out, work),
+    )
 }
 
 #[unsafe(no_mangle)]
@@ -262,8 +248,10 @@ pub extern "C" fn collartug_var_for_all(
     if reply.len() < REPLY_WORDS {
         return 0;
     }
-    let made = operators::var_for_all(n, count, bdd, BddVariable(variable), room, out, work);
-    replies::write_reply(reply, replies::made_written(made))
+    replies::write_answer(
+        reply,
+        operators::var_for_all(n, count, bdd, BddVariable(variable), room, out, work),
+    )
 }
 
 #[unsafe(no_mangle)]
@@ -282,8 +270,10 @@ pub extern "C" fn collartug_var_exists(
     if reply.len() < REPLY_WORDS {
         return 0;
     }
-    let made = operators::var_exists(n, count, bdd, BddVariable(variable), room, out, work);
-    replies::write_reply(reply, replies::made_written(made))
+    replies::write_answer(
+        reply,
+        operators::var_exists(n, count, bdd, BddVariable(variable), room, out, work),
+    )
 }
 
 #[unsafe(no_mangle)]
@@ -301,8 +291,7 @@ pub extern "C" fn collartug_not(
     if reply.len() < REPLY_WORDS {
         return 0;
     }
-    let made = unary::not(n, count, bdd, room, out, work);
-    replies::write_reply(reply, replies::made_written(made))
+    replies::write_answer(reply, unary::not(n, count, bdd, room, out, work))
 }
 
 #[unsafe(no_mangle)]
@@ -322,17 +311,19 @@ pub extern "C" fn collartug_var_restrict(
     if reply.len() < REPLY_WORDS {
         return 0;
     }
-    let made = unary::var_restrict(
-        n,
-        count,
-        bdd,
-        BddVariable(variable),
-        value != 0,
-        room,
-        out,
-        work,
-    );
-    replies::write_reply(reply, replies::made_written(made))
+    replies::write_answer(
+        reply,
+        unary::var_restrict(
+            n,
+            count,
+            bdd,
+            BddVariable(variable),
+            value != 0,
+            room,
+            out,
+            work,
+        ),
+    )
 }
 
 #[unsafe(no_mangle)]
@@ -348,8 +339,7 @@ pub extern "C" fn collartug_support_set(
     if reply.len() < REPLY_WORDS {
         return 0;
     }
-    let marks = unary::support_set(n, count, bdd, work);
-    replies::write_reply(reply, replies::marks_written(marks))
+    replies::write_answer(reply, unary::support_set(n, count, bdd, work))
 }
 
 #[unsafe(no_mangle)]
@@ -365,8 +355,7 @@ pub extern "C" fn collartug_exact_cardinality(
     if reply.len() < REPLY_WORDS {
         return 0;
     }
-    let counted = unary::exact_cardinality(n, count, bdd, work);
-    replies::write_reply(reply, replies::counted_written(counted))
+    replies::write_answer(reply, unary::exact_cardinality(n, count, bdd, work))
 }
 
 #[unsafe(no_mangle)]
@@ -384,8 +373,7 @@ pub extern "C" fn collartug_mk_dnf(
     if reply.len() < REPLY_WORDS {
         return 0;
     }
-    let made = builders::mk_dnf(n, count, clauses, room, out, work);
-    replies::write_reply(reply, replies::made_written(made))
+    replies::write_answer(reply, builders::mk_dnf(n, count, clauses, room, out, work))
 }
 
 #[unsafe(no_mangle)]
@@ -403,8 +391,7 @@ pub extern "C" fn collartug_mk_cnf(
     if reply.len() < REPLY_WORDS {
         return 0;
     }
-    let made = builders::mk_cnf(n, count, clauses, room, out, work);
-    replies::write_reply(reply, replies::made_written(made))
+    replies::write_answer(reply, builders::mk_cnf(n, count, clauses, room, out, work))
 }
 
 #[unsafe(no_mangle)]
@@ -422,8 +409,10 @@ pub extern "C" fn collartug_mk_dnf_valuation(
     if reply.len() < REPLY_WORDS {
         return 0;
     }
-    let made = builders::mk_dnf_valuation(n, count, cases, room, out, work);
-    replies::write_reply(reply, replies::made_written(made))
+    replies::write_answer(
+        reply,
+        builders::mk_dnf_valuation(n, count, cases, room, out, work),
+    )
 }
 
 #[unsafe(no_mangle)]
@@ -441,8 +430,10 @@ pub extern "C" fn collartug_mk_cnf_valuation(
     if reply.len() < REPLY_WORDS {
         return 0;
     }
-    let made = builders::mk_cnf_valuation(n, count, cases, room, out, work);
-    replies::write_reply(reply, replies::made_written(made))
+    replies::write_answer(
+        reply,
+        builders::mk_cnf_valuation(n, count, cases, room, out, work),
+    )
 }
 
 #[unsafe(no_mangle)]
@@ -461,8 +452,10 @@ pub extern "C" fn collartug_check_cover(
     if reply.len() < REPLY_WORDS {
         return 0;
     }
-    let covered = cover::check_cover(n, count, bdd, clause_count, clauses, room, work);
-    replies::write_reply(reply, replies::covered_written(covered))
+    replies::write_answer(
+        reply,
+        cover::check_cover(n, count, bdd, clause_count, clauses, room, work),
+    )
 }
 
 #[unsafe(no_mangle)]
@@ -479,8 +472,7 @@ pub extern "C" fn collartug_to_dnf(
     if reply.len() < REPLY_WORDS {
         return 0;
     }
-    let listed = lists::to_dnf(n, count, bdd, out, work);
-    replies::write_reply(reply, replies::listed_written(listed))
+    replies::write_answer(reply, lists::to_dnf(n, count, bdd, out, work))
 }
 
 #[unsafe(no_mangle)]
@@ -497,8 +489,7 @@ pub extern "C" fn collartug_to_cnf(
     if reply.len() < REPLY_WORDS {
         return 0;
     }
-    let listed = lists::to_cnf(n, count, bdd, out, work);
-    replies::write_reply(reply, replies::listed_written(listed))
+    replies::write_answer(reply, lists::to_cnf(n, count, bdd, out, work))
 }
 
 #[unsafe(no_mangle)]
@@ -513,18 +504,14 @@ pub extern "C" fn collartug_read_sheet(
     if reply.len() < REPLY_WORDS {
         return 0;
     }
-    let read = sheet::read_sheet(bytes, clauses, nodes);
-    replies::write_reply(reply, replies::sheet_written(read))
+    replies::write_answer(reply, sheet::read_sheet(bytes, clauses, nodes))
 }
 
 #[unsafe(no_mangle)]
 pub extern "C" fn collartug_walk_check(n: u16, count: usize, bdd: &[u32], reply: &mut [u64]) -> u64
     ensures { (result ≡ accepted reply.old) × (reply.new ≡ reply_after (admits_walk n count bdd.now) reply.old) }
 {
-    replies::write_reply(
-        reply,
-        replies::inspection_written(reduced::walk_check(n, count, bdd)),
-    )
+    replies::write_answer(reply, reduced::walk_check(n, count, bdd).answer())
 }
 
 #[unsafe(no_mangle)]
@@ -537,10 +524,7 @@ pub extern "C" fn collartug_kth_step(
 ) -> u64
     ensures { (result ≡ accepted reply.old) × (reply.new ≡ reply_after (tells (walk_clauses n count bdd.now) k) reply.old) }
 {
-    replies::write_reply(
-        reply,
-        replies::step_written(walk::kth_step(n, count, bdd, k)),
-    )
+    replies::write_answer(reply, Ok(walk::kth_step(n, count, bdd, k)))
 }
 
 // A part of the caller's own words cannot cross: its length, its first and its last word do.
@@ -552,10 +536,8 @@ pub extern "C" fn collartug_choose_posting<'a>(
 ) -> u64
     ensures { (result ≡ accepted reply.old) × (reply.new ≡ reply_after (posts dnf.now cnf.now) reply.old) }
 {
-    replies::write_reply(
-        reply,
-        replies::part_written(posting::choose_posting(dnf, cnf)),
-    )
+    let part = posting::choose_posting(dnf, cnf);
+    replies::write_answer(reply, Ok(Part::of(part)))
 }
 
 #[unsafe(no_mangle)]
@@ -573,6 +555,8 @@ pub extern "C" fn collartug_to_optimized_dnf(
     if reply.len() < REPLY_WORDS {
         return 0;
     }
-    let listed = short::to_optimized_dnf(n, count, bdd, room, out, work);
-    replies::write_reply(reply, replies::listed_written(listed))
+    replies::write_answer(
+        reply,
+        short::to_optimized_dnf(n, count, bdd, room, out, work),
+    )
 }

@@ -1,4 +1,5 @@
-// The entries for C and Rust programs: each is the function of its name in `exports`, with the same clauses.
+// The entries for C and Rust programs: each is the function of its name in `exports`, with the same clauses. A static library exports only functions of its own, and
+// no crate can stand on one, so the C interface needs each of them twice.
 #![tactic(auto)]
 
 ghost use Rattle.std.specs.Prelude.{◌≡◌, not, eqb};
@@ -13,7 +14,7 @@ ghost use Rattle.cover.specs.Cover.{checks_cover};
 ghost use Rattle.lists.specs.Lists.{lists_dnf, lists_cnf};
 ghost use Rattle.sheet.specs.Sheet.{reads_sheet};
 ghost use Rattle.reduced.specs.Reduced.{admits_walk};
-ghost use Rattle.walk.specs.Walk.{tells, walk_clauses};
+ghost use Rattle.walk.specs.Step.{tells, walk_clauses};
 ghost use Rattle.short.specs.Short.{lists_short};
 ghost use Rattle.unary.specs.Unary.{negates, restricts, supports, counts_cases};
 ghost use Rattle.replies.specs.Replies.{Exported, ExportedWork, ExportedPair, reply_words, accepted, buffer_with, reply_after};

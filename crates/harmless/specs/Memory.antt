@@ -1,58 +1,37 @@
--- The memory of functions found harmless: it lies before the frames.
-use Rattle.std.specs.Prelude.{◌≡◌, Bool, true, List, ℕ, ◌+◌, ◌*◌, ◌≤◌, ◌<◌, take, get_or}
+-- The memory of functions found harmless.
+use Rattle.std.specs.Prelude.{◌≡◌, Bool, true, List, ℕ, ◌+◌, ◌*◌, ◌<◌, drop, get_or}
 use Rattle.theory.specs.Tree.{Tree}
 use Rattle.theory.specs.Words.{stride}
-use Rattle.refusal.specs.Limits.{min_room, max_marks, max_nodes}
 use Rattle.rule.specs.Rule.{called, all_fit}
-use Rattle.frame.specs.declared.Size.{Size}
-use Rattle.frame.specs.Held.{Tab, Held}
+use Rattle.held.specs.Held.{Tab}
 
--- blocks of four places: n + 2 blocks of memory, then a frame for each depth
-abbrev pub block : Size → ℕ
-block q = 4 * stride * q.wide
-
-abbrev pub frame_at : Size → ℕ → ℕ
-frame_at q d = block q * (q.n + 2 + d)
-
-abbrev pub memory : Size → List ℕ → List ℕ
-memory q w = take (frame_at q 0) w
+-- n + 2 blocks of four places
+abbrev pub known_words : ℕ → ℕ → ℕ
+known_words n room = 4 * (stride * room) * (n + 2)
 
 -- harmless: the run of the function calls for nothing that is over room
-abbrev pub Harmless : Size → Tree → Type 0
-Harmless q f = all_fit q.room q.n (called (q.n + 1) q.n f) ≡ true
+abbrev pub Harmless : ℕ → ℕ → Tree → Type 0
+Harmless n room f = all_fit room n (called (n + 1) n f) ≡ true
 
-abbrev pub Proven : Size → List ℕ → ℕ → ℕ → Type 0
-Proven q w a k = (f : Tree) → Tab q.n w a k f → Harmless q f
-
-abbrev pub Recalls : Size → List ℕ → ℕ → ℕ → Bool → Type 0
-Recalls q w a k r = r ≡ true → Proven q w a k
+abbrev pub Recalls : ℕ → ℕ → Tree → Bool → Type 0
+Recalls n room f r = r ≡ true → Harmless n room f
 
 -- slots of a node count and a place for its nodes, three to a block
-abbrev pub slot_size : Size → ℕ
-slot_size q = 1 + stride * q.wide
+abbrev pub slot_size : ℕ → ℕ
+slot_size room = 1 + stride * room
 
-abbrev pub slots : Size → ℕ
-slots q = 3 * (q.n + 2)
+abbrev pub slots : ℕ → ℕ
+slots n = 3 * (n + 2)
 
-abbrev pub slot_at : Size → ℕ → ℕ
-slot_at q i = slot_size q * i
+abbrev pub slot_at : ℕ → ℕ → ℕ
+slot_at room i = slot_size room * i
 
 -- a function whose table is in a slot is harmless
-unfoldable pub Remembers : Size → List ℕ → Type 0
-Remembers q h = (i : ℕ) (f : Tree) → i < slots q → get_or h (slot_at q i) 0 ≤ q.room → Tab q.n h (slot_at q i + 1) (get_or h (slot_at q i) 0) f → Harmless q f
-
--- a table behind the memory, to be looked up or kept
-pub record Keeping (w : List ℕ) (q : Size) (a k : ℕ) : Type 0 where
-  pub held : Held q.n w a k
-  pub behind : frame_at q 0 ≤ a
-  pub fits : k ≤ q.room
-  pub room : q.room ≤ q.wide
-  pub some : min_room ≤ q.room
-  pub few : q.wide ≤ max_nodes
-  pub marks : q.n ≤ max_marks
+unfoldable pub Remembers : ℕ → ℕ → List ℕ → Type 0
+Remembers n room h = (i : ℕ) (f : Tree) → i < slots n → Tab n room (drop (slot_at room i + 1) h) (get_or h (slot_at room i) 0) f → Harmless n room f
 
 -- the slot of a number
-pub record Slot (q : Size) (r : ℕ) : Type 0 where
+pub record Slot (n room r : ℕ) : Type 0 where
   pub index : ℕ
-  pub less : index < slots q
-  pub is : r ≡ slot_at q index
+  pub less : index < slots n
+  pub is : r ≡ slot_at room index

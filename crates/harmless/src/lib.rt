@@ -1,47 +1,49 @@
 // The memory of functions found harmless: one slot for each remainder of a sum over a table's words; the last one kept in a slot stays. Inner.
 #![tactic(auto)]
 
-ghost use Rattle.std.specs.Prelude.{◌≡◌, drop};
-ghost use Rattle.harmless.specs.Memory.{frame_at, memory, Proven, Recalls, Remembers, Keeping, Slot};
+ghost use Rattle.std.specs.Prelude.{◌≤◌, length};
+ghost use Rattle.held.specs.Trees.{tree_of};
+ghost use Rattle.harmless.specs.Memory.{known_words, Harmless, Recalls, Remembers, Slot};
 
-use frame::Size;
+use held::Function;
 use table::NODE_WORDS;
 
-// Where the table at a belongs in the memory.
-fn slot_of(w: &[u32], q: Size, a: usize, k: u32) -> usize
-    requires { Keeping w.now q a k }
-    ensures { Slot q result }
+// Where the function's table belongs in the memory.
+fn slot_of(function: Function) -> usize
+    ensures { Slot function.entry.n function.entry.room result }
 {
-    let slots = 3 * (q.n as u32 + 2);
-    let end = NODE_WORDS * (k as usize);
+    let slots = 3 * (function.n as u32 + 2);
+    let end = NODE_WORDS * function.count;
     let mut sum: u32 = 0;
-    let mut i: usize = 0;
-    while i < end {
-        sum = (31 * sum + w[a + i] % slots) % slots;
-        i += 1;
+    for word in &function.words[..end] {
+        sum = (31 * sum + *word % slots) % slots;
     }
-    (1 + NODE_WORDS * q.wide) * (sum as usize)
+    (1 + NODE_WORDS * function.room) * (sum as usize)
 }
 
-// Is the table at a in its slot?
-pub fn recall(w: &[u32], q: Size, a: usize, k: u32) -> bool
-    requires { Remembers q (memory q w.now) × Keeping w.now q a k }
-    ensures { Recalls q w.now a k result }
+// Is the function's table in its slot?
+pub fn recall(known: &[u32], function: Function) -> bool
+    requires long { known_words function.n function.room ≤ length known.now }
+    requires remembers { Remembers function.n function.room known.now }
+    ensures { Recalls function.entry.n function.entry.room (tree_of function.entry) result }
 {
-    let at = slot_of(w, q, a, k);
-    if w[at] != k {
+    let at = slot_of(function);
+    let end = NODE_WORDS * function.count;
+    if known[at] as usize != function.count {
         return false;
     }
-    frame::same_words(w, at + 1, a, NODE_WORDS * (k as usize))
+    known[at + 1..at + 1 + end] == function.words[..end]
 }
 
-// Puts the table at a into its slot.
-pub fn remember(w: &mut [u32], q: Size, a: usize, k: u32)
-    requires { Remembers q (memory q w.old) × Keeping w.old q a k × Proven q w.old a k }
-    ensures w_unchanged { drop (frame_at q 0) w.new ≡ drop (frame_at q 0) w.old }
-    ensures remembers { Remembers q (memory q w.new) }
+// Puts the function's table into its slot.
+pub fn remember(known: &mut [u32], function: Function)
+    requires long { known_words function.n function.room ≤ length known.old }
+    requires remembers { Remembers function.n function.room known.old }
+    requires harmless { Harmless function.n function.room (tree_of function) }
+    ensures remembers { Remembers function.entry.n function.entry.room known.new }
 {
-    let at = slot_of(&*w, q, a, k);
-    w[at] = k;
-    frame::copy_words(w, a, NODE_WORDS * (k as usize), at + 1);
+    let at = slot_of(function);
+    let end = NODE_WORDS * function.count;
+    known[at] = function.count as u32;
+    known[at + 1..at + 1 + end].copy_from_slice(&function.words[..end]);
 }

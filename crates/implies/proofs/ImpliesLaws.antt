@@ -3,13 +3,13 @@ use mathlib.Core.Path.{◌≡◌, refl, sym, ap, ap₂, subst, ◌∙◌}
 use mathlib.Core.Logic.{inl, inr}
 use mathlib.Core.Bool.{Bool, true, false, cond, not, ◌&&◌}
 use mathlib.Core.List.{List}
-use Prim.Native.Nat.{ℕ, suc, ◌+◌, ◌-◌, ◌/◌, ◌^◌, ◌<◌, ◌≤◌}
+use Prim.Native.Nat.{ℕ, suc, ◌+◌, ◌-◌, ◌^◌, ◌<◌, ◌≤◌}
 use native.Mathlib.Omega.{arith}
 use native.Mathlib.Numerals.{add-one}
 use native.Mathlib.Nat.{sub-zero}
 use native.Mathlib.Decide.{ℕ_discrete}
 use lib.Dec.{eqb}
-use lib.ListN.{length, take}
+use lib.ListN.{length, take, replicate}
 use borrow.Author.Tests.{eq-eqb, ne_eqb}
 use Rattle.theory.specs.Tree.{Tree, fork, Deep, look, konst, pointwise, and_not}
 use Rattle.theory.specs.Table.{Table, walk, constants, Ordered}
@@ -22,20 +22,22 @@ use Rattle.theory.proofs.Again.{walk-konst}
 use Rattle.theory.proofs.Words.{length-nodes}
 use Rattle.refusal.specs.Limits.{max_nodes}
 use Rattle.refusal.specs.Buffers.{padded}
-use Rattle.table.specs.declared.BddPointer.{BddPointer}
 use Rattle.join.specs.declared.Job.{Job}
 use Rattle.join.specs.declared.Cut.{Cut}
-use Rattle.join.specs.declared.Step.{Step}
-use Rattle.join.specs.declared.Step.TheVariants.{Known, Fork}
 use Rattle.join.specs.Task.{Task, pair_tree, top}
 use Rattle.join.specs.Memo.{ways, Stores}
-use Rattle.join.specs.Joining.{task_of, joined_by, Operands, Splitting, Splits, Has, Parted, known_in}
+use Rattle.join.specs.Joining.{task_of, joined_by, Operands, Splitting, Has, Parted, Standing}
+use Rattle.join.proofs.JoinLaws.{Same, turned-back}
 use Rattle.join.proofs.PairLaws.{tree-deep, top_most, means-new}
 use Rattle.join.proofs.SplitLaws.{node-few}
 use Rattle.join.proofs.WholeLaws.{tree_is, nothing_held}
-use Rattle.implies.specs.Implying.{Empty, Implying, Implied, Implies, SaysNo}
+use Rattle.implies.specs.Implying.{Empty, Ready, SaysEmpty, SaysNo}
 
-module _ (a b m : List ℕ) (j : Job) (l x y : ℕ) (r : Implying a b m j l x y) where
+-- the descent over the same input
+same_input : (a b m : List ℕ) (j : Job) (a₁ b₁ : List ℕ) (j₁ : Job) → Same a b j a₁ b₁ j₁ → Ready a₁ b₁ m j₁ → Ready a b m j
+same_input a b m j a₁ b₁ j₁ e r = subst (λ i. Ready a b m i) e.2 (subst (λ w. Ready a w m j₁) e.1 (subst (λ w. Ready w b₁ m j₁) e.0 r))
+
+module _ (a b m : List ℕ) (j : Job) (r : Ready a b m j) (l x y : ℕ) (stands : Standing a b j l x y) where
   abbrev T : Task
   T = task_of a b j
 
@@ -52,13 +54,13 @@ module _ (a b m : List ℕ) (j : Job) (l x y : ℕ) (r : Implying a b m j l x y)
   ob = r.operands.right.ordered
 
   from-top : l ≤ top T x y
-  from-top = omega (arith, r.left.fits, r.right.fits)
+  from-top = omega (arith, stands.0.fits, stands.1.fits)
 
   pub splitting : Splitting a b m j x y
   splitting = record {
     operands = r.operands;
-    x_in = omega (arith, r.left.lies, length-nodes j.left.count a);
-    y_in = omega (arith, r.right.lies, length-nodes j.right.count b);
+    x_in = omega (arith, stands.0.lies, length-nodes j.left.count a);
+    y_in = omega (arith, stands.1.lies, length-nodes j.right.count b);
   }
 
   empty-walk : (k p q : ℕ) → Empty T k p q → walk s k (pair_tree T k p q) ≡ (s, 0)
@@ -71,24 +73,17 @@ module _ (a b m : List ℕ) (j : Job) (l x y : ℕ) (r : Implying a b m j l x y)
       sym w.means ∙ tree_of-konst n s (n - k) k 0 (omega arith) refl
 
   level-within : l ≤ n
-  level-within = omega (arith, from-top, top_most T oa ob x y r.left.lies)
+  level-within = omega (arith, from-top, top_most T oa ob x y stands.0.lies)
 
   -- ---- what is known at once
-  module _ (step : Step) (splits : Splits a b m j x y step) where
-    pub known_implies : (q : BddPointer) → step ≡ Known q → (o : BddPointer) → o ≡ known_in step → Implies a b m j l x y (eqb o.0 0)
-    known_implies q e o is =
-        let same : o.0 ≡ q.0 = ap (λ (z : BddPointer). z.0) (is ∙ ap known_in e) in
-        let has : Has T m x y q.0 = subst (Splits a b m j x y) e splits in
-        rw same (decide q.0 (has s (constants-good n) r.known l from-top))
-      where
-        decide : (q : ℕ) → walk s l (pair_tree T l x y) ≡ (s, q) → Implies a b m j l x y (eqb q 0)
-        decide q w = elim (ℕ_discrete q 0) [
-          | yes z ↦ rw (eq-eqb q 0 z) (record { empty = walk-empty l x y level-within (w ∙ ap (λ (o : ℕ). (s, o)) z); known = r.known })
-          | no z ↦ rw (ne_eqb q 0 z) (λ e. z (ap (λ (o : Table × ℕ). o.1) (sym w ∙ empty-walk l x y e)))
-        ]
-
-    pub step-parted : (c : Cut) → step ≡ Fork c → Parted T x y c
-    step-parted c e = subst (Splits a b m j x y) e splits
+  pub known_implies : (q : ℕ) → Has T m x y q → SaysEmpty a b j l x y (eqb q 0)
+  known_implies q has = elim (ℕ_discrete q 0) [
+    | yes z ↦ rw (eq-eqb q 0 z) (walk-empty l x y level-within (walks ∙ ap (λ (o : ℕ). (s, o)) z))
+    | no z ↦ rw (ne_eqb q 0 z) (λ e. z (ap (λ (o : Table × ℕ). o.1) (sym walks ∙ empty-walk l x y e)))
+  ]
+    where
+      walks : walk s l (pair_tree T l x y) ≡ (s, q)
+      walks = has s (constants-good n) r.known l from-top
 
   -- ---- a pair split
   module _ (c : Cut) (d : Parted T x y c) where
@@ -101,8 +96,8 @@ module _ (a b m : List ℕ) (j : Job) (l x y : ℕ) (r : Implying a b m j l x y)
     pub next_fits : v + 1 ≤ n
     next_fits = omega (arith, d.below)
 
-    pub low-ready : Implying a b m j (v + 1) c.low.left.0 c.low.right.0
-    low-ready = record { operands = r.operands; left = rw (add-one v) d.low-left; right = rw (add-one v) d.low-right; known = r.known }
+    pub low-stands : Standing a b j (v + 1) c.low.left.0 c.low.right.0
+    low-stands = (rw (add-one v) d.low-left, rw (add-one v) d.low-right)
 
     level-is : n - v ≡ suc (n - suc v)
     level-is = omega (arith, d.below)
@@ -116,10 +111,10 @@ module _ (a b m : List ℕ) (j : Job) (l x y : ℕ) (r : Implying a b m j l x y)
         ∙ walk-empty v c.pair.left.0 c.pair.right.0 (omega (arith, d.below)) (sym (d.walks s (constants-good n) l from-top) ∙ empty-walk l x y e)
         ∙ ap (λ k. konst k false) level-is
 
-    low-empty : Empty T l x y → Empty T (v + 1) c.low.left.0 c.low.right.0
+    pub low-empty : Empty T l x y → Empty T (v + 1) c.low.left.0 c.low.right.0
     low-empty e = rw (add-one v) (let z = both_sides e in cc)
 
-    high-empty : Empty T l x y → Empty T (v + 1) c.high.left.0 c.high.right.0
+    pub high-empty : Empty T l x y → Empty T (v + 1) c.high.left.0 c.high.right.0
     high-empty e = rw (add-one v) (let z = both_sides e in cc)
 
     own_walk : Empty T (v + 1) c.low.left.0 c.low.right.0 → Empty T (v + 1) c.high.left.0 c.high.right.0
@@ -131,68 +126,69 @@ module _ (a b m : List ℕ) (j : Job) (l x y : ℕ) (r : Implying a b m j l x y)
         empty-walk v c.pair.left.0 c.pair.right.0 (d.forks ∙ ap₂ fork p' q' ∙ ap (λ k. konst k false) (sym level-is))
 
     -- the low pair
-    module _ (m₁ : List ℕ) (e₁ : length m₁ ≡ length m) (z : Bool) (low : Implies a b m₁ j (v + 1) c.low.left.0 c.low.right.0 z) where
-      pub low_stops : z ≡ false → Empty T l x y → ⊥
-      low_stops f e = subst (Implies a b m₁ j (v + 1) c.low.left.0 c.low.right.0) f low (low-empty e)
+    module _ (a₁ b₁ m₁ : List ℕ) (j₁ : Job) (input₁ : Same a b j a₁ b₁ j₁) (low : Empty T (v + 1) c.low.left.0 c.low.right.0) where
+      pub high-stands : Standing a₁ b₁ j₁ (v + 1) c.high.left.0 c.high.right.0
+      high-stands = rw (input₁.0, input₁.1, input₁.2) (rw (add-one v) d.high-left, rw (add-one v) d.high-right)
 
-      module _ (t : z ≡ true) where
-        low-holds : Implied a b m₁ j (v + 1) c.low.left.0 c.low.right.0
-        low-holds = subst (Implies a b m₁ j (v + 1) c.low.left.0 c.low.right.0) t low
+      pub deeper_still : j₁.n - (v + 1) < n - l
+      deeper_still = rw input₁.2 deeper
 
-        pub high-ready : Implying a b m₁ j (v + 1) c.high.left.0 c.high.right.0
-        high-ready = record {
-          operands = record { left = r.operands.left; right = r.operands.right; slots = omega (arith, r.operands.slots) };
-          left = rw (add-one v) d.high-left;
-          right = rw (add-one v) d.high-right;
-          known = low-holds.known;
-        }
+      pub high-stops : (Empty (task_of a₁ b₁ j₁) (v + 1) c.high.left.0 c.high.right.0 → ⊥) → Empty T l x y → ⊥
+      high-stops f e = f (rw (input₁.0, input₁.1, input₁.2) (high-empty e))
 
-        -- the high pair
-        module _ (m₂ : List ℕ) (e₂ : length m₂ ≡ length m₁) (z' : Bool) (high : Implies a b m₂ j (v + 1) c.high.left.0 c.high.right.0 z') where
-          pub high_stops : z' ≡ false → Empty T l x y → ⊥
-          high_stops f e = subst (Implies a b m₂ j (v + 1) c.high.left.0 c.high.right.0) f high (high-empty e)
+      -- the high pair
+      module _ (a₂ b₂ m₂ : List ℕ) (j₂ : Job) (input₂ : Same a₁ b₁ j₁ a₂ b₂ j₂) (ready₂ : Ready a₂ b₂ m₂ j₂) (high : Empty (task_of a₁ b₁ j₁) (v + 1) c.high.left.0 c.high.right.0) where
+        input : Same a b j a₂ b₂ j₂
+        input = (input₂.0 ∙ input₁.0, input₂.1 ∙ input₁.1, input₂.2 ∙ input₁.2)
 
-          slots₂ : j.right.count ≤ length m₂ / ways
-          slots₂ = omega (arith, r.operands.slots)
+        now₂ : Ready a b m₂ j
+        now₂ = same_input a b m₂ j a₂ b₂ j₂ input ready₂
 
-          pub remember-asks : (ways ≤ length m₂) × (c.pair.left.0 < max_nodes) × (c.pair.right.0 < max_nodes) × (0 < max_nodes)
-          remember-asks = (
-            omega (arith, slots₂, r.operands.right.some),
-            node-few n j.left.count a r.operands.left c.pair.left.0 (omega (arith, d.left_in, length-nodes j.left.count a)),
-            node-few n j.right.count b r.operands.right c.pair.right.0 (omega (arith, d.right_in, length-nodes j.right.count b)),
-            omega arith,
-          )
+        pub remember-asks : (ways ≤ length m₂) × (c.pair.left.0 < max_nodes) × (c.pair.right.0 < max_nodes) × (0 < max_nodes)
+        remember-asks = (
+          omega (arith, now₂.operands.slots, r.operands.right.some),
+          node-few n j.left.count a r.operands.left c.pair.left.0 (omega (arith, d.left_in, length-nodes j.left.count a)),
+          node-few n j.right.count b r.operands.right c.pair.right.0 (omega (arith, d.right_in, length-nodes j.right.count b)),
+          omega arith,
+        )
 
-          module _ (t' : z' ≡ true) (m₃ : List ℕ) (stored : Stores m₂ m₃ c.pair.left.0 c.pair.right.0 0) where
-            high-holds : Implied a b m₂ j (v + 1) c.high.left.0 c.high.right.0
-            high-holds = subst (Implies a b m₂ j (v + 1) c.high.left.0 c.high.right.0) t' high
+        own : walk s v (pair_tree T v c.pair.left.0 c.pair.right.0) ≡ (s, 0)
+        own = own_walk low (rw (input₁.0, input₁.1, input₁.2) at high)
 
-            own : walk s v (pair_tree T v c.pair.left.0 c.pair.right.0) ≡ (s, 0)
-            own = own_walk low-holds.empty high-holds.empty
+        pub both_empty : Empty T l x y
+        both_empty = walk-empty l x y level-within (d.walks s (constants-good n) l from-top ∙ own)
 
-            pub implied : Implied a b m₃ j l x y
-            implied = record {
-              empty = walk-empty l x y level-within (d.walks s (constants-good n) l from-top ∙ own);
-              known = λ x' y' r' hx hy h.
-                  elim (stored x' y' r' (omega (arith, slots₂, d.right_in, length-nodes j.right.count b)) (omega (arith, slots₂, length-nodes j.right.count b)) h) [
-                    | inl e ↦ rw (e.0, e.1, e.2) (means-new T oa ob s (constants-good n) c.pair.left.0 c.pair.right.0 v d.left_in d.level (s, 0) own)
-                    | inr old ↦ high-holds.known x' y' r' hx hy old
-                  ];
-            }
+        pub kept_ready : (m₃ : List ℕ) → length m₃ ≡ length m₂ → Stores m₂ m₃ c.pair.left.0 c.pair.right.0 0 → Ready a₂ b₂ m₃ j₂
+        kept_ready m₃ e stored = same_input a₂ b₂ m₃ j₂ a b j (turned-back a b a₂ b₂ j j₂ input) (record {
+          operands = record { left = r.operands.left; right = r.operands.right; slots = omega (arith, now₂.operands.slots) };
+          known = λ x' y' r' hx hy h.
+              elim (stored x' y' r' (omega (arith, now₂.operands.slots, d.right_in, length-nodes j.right.count b)) (omega (arith, now₂.operands.slots, length-nodes j.right.count b)) h) [
+                | inl e ↦ rw (e.0, e.1, e.2) (means-new T oa ob s (constants-good n) c.pair.left.0 c.pair.right.0 v d.left_in d.level (s, 0) own)
+                | inr old ↦ now₂.known x' y' r' hx hy old
+              ];
+        })
 
 -- ---- the whole
+cleared : (m : List ℕ) (k : ℕ) (w : List ℕ) → w ≡ replicate k 0 → w ≡ padded (take 0 m) k
+unfolding padded
+cleared m k w e = let z : k - 0 ≡ k = omega arith in rw z e
+
 module _ (a b m : List ℕ) (j : Job) (g : Operands a b m j) where
-  pub start_ready : (m₁ : List ℕ) → length m₁ ≡ length m → m₁ ≡ padded (take 0 m) (length m) → Implying a b m₁ j 0 (j.left.count - 1) (j.right.count - 1)
+  pub start_ready : (m₁ : List ℕ) → length m₁ ≡ length m → m₁ ≡ replicate (length m) 0 → Ready a b m₁ j
   start_ready m₁ e clear = record {
     operands = record { left = g.left; right = g.right; slots = omega (arith, g.slots) };
-    left = record { lies = omega (arith, length-nodes j.left.count a, g.left.some); fits = omega arith };
-    right = record { lies = omega (arith, length-nodes j.right.count b, g.right.some); fits = omega arith };
-    known = λ x' y' r hx hy h. absurd (nothing_held m m₁ x' y' r (omega (arith, g.slots, g.right.some)) clear e h);
+    known = λ x' y' r hx hy h. absurd (nothing_held m m₁ x' y' r (omega (arith, g.slots, g.right.some)) (cleared m (length m) m₁ clear) e h);
   }
 
-  pub whole_says : (m₂ : List ℕ) (z : Bool) → Implies a b m₂ j 0 (j.left.count - 1) (j.right.count - 1) z → SaysNo j.n (joined_by a b j) z
-  whole_says m₂ true h = sym (tree_is a b j) ∙ h.empty ∙ ap (λ k. konst k false) (sub-zero j.n)
-  whole_says m₂ false h = λ e. h (tree_is a b j ∙ e ∙ ap (λ k. konst k false) (sym (sub-zero j.n)))
+  pub start-stands : Standing a b j 0 (j.left.count - 1) (j.right.count - 1)
+  start-stands = (
+    record { lies = omega (arith, length-nodes j.left.count a, g.left.some); fits = omega arith },
+    record { lies = omega (arith, length-nodes j.right.count b, g.right.some); fits = omega arith },
+  )
+
+  pub whole_says : (z : Bool) → SaysEmpty a b j 0 (j.left.count - 1) (j.right.count - 1) z → SaysNo j.n (joined_by a b j) z
+  whole_says true h = sym (tree_is a b j) ∙ h ∙ ap (λ k. konst k false) (sub-zero j.n)
+  whole_says false h = λ e. h (tree_is a b j ∙ e ∙ ap (λ k. konst k false) (sym (sub-zero j.n)))
 
 -- ---- in plain words, for and-not: the left function implies the right one
 abbrev pub Within : ℕ → Tree → Tree → Type 0

@@ -2,8 +2,6 @@
 use Rattle.std.specs.Prelude.{◌≡◌, Bool, true, false, List, ℕ, ◌-◌}
 use Rattle.theory.specs.Tree.{Tree, konst}
 use Rattle.theory.specs.Table.{constants}
-use Rattle.theory.specs.Words.{nodes}
-use Rattle.theory.proofs.Step.{Stands}
 use Rattle.join.specs.declared.Job.{Job}
 use Rattle.join.specs.Task.{Task, pair_tree}
 use Rattle.join.specs.Joining.{task_of, Operands, Knows}
@@ -12,20 +10,14 @@ use Rattle.join.specs.Joining.{task_of, Operands, Knows}
 abbrev pub Empty : Task → ℕ → ℕ → ℕ → Type 0
 Empty T l x y = pair_tree T l x y ≡ konst (T.marks - l) false
 
-pub record Implying (a b m : List ℕ) (j : Job) (l x y : ℕ) : Type 0 where
+-- the memory holds only what is so
+pub record Ready (a b m : List ℕ) (j : Job) : Type 0 where
   pub operands : Operands a b m j
-  pub left : Stands (nodes j.left.count a) l x
-  pub right : Stands (nodes j.right.count b) l y
   pub known : Knows (task_of a b j) m (constants j.n)
 
--- yes: so it is, and the memory holds only what is so
-pub record Implied (a b m : List ℕ) (j : Job) (l x y : ℕ) : Type 0 where
-  pub empty : Empty (task_of a b j) l x y
-  pub known : Knows (task_of a b j) m (constants j.n)
-
-abbrev pub Implies : List ℕ → List ℕ → List ℕ → Job → ℕ → ℕ → ℕ → Bool → Type 0
-Implies a b m j l x y true = Implied a b m j l x y
-Implies a b m j l x y false = Empty (task_of a b j) l x y → ⊥
+abbrev pub SaysEmpty : List ℕ → List ℕ → Job → ℕ → ℕ → ℕ → Bool → Type 0
+SaysEmpty a b j l x y true = Empty (task_of a b j) l x y
+SaysEmpty a b j l x y false = Empty (task_of a b j) l x y → ⊥
 
 -- ---- the whole
 abbrev pub Asking : List ℕ → List ℕ → List ℕ → Job → Type 0

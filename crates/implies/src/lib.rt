@@ -2,38 +2,53 @@
 // With and-not it asks whether the left table implies the right one.
 #![tactic(auto)]
 
-ghost use Rattle.implies.specs.Implying.{Implying, Implies, Asking, SaysNo};
-ghost use Rattle.join.specs.Joining.{joined_by};
+ghost use Rattle.std.specs.Prelude.{◌≡◌, length};
+ghost use Rattle.std.proofs.Props.{props};
+ghost use Rattle.join.specs.Trees.{tree_set};
+ghost use Rattle.join.specs.Joining.{Splitting, Splits, Standing, joined_by};
+ghost use Rattle.implies.specs.Implying.{Ready, SaysEmpty, Asking, SaysNo};
 
 use join::{Job, Pair, Step};
 use table::BddPointer;
 use valuation::BddVariable;
 
-// No for every case below a pair. The memory holds the pairs of which it is known.
-pub fn says_no(
-    a: &[u32],
-    b: &[u32],
-    memo: &mut [u32],
+// The descent of two tables: its memory holds the pairs of which it is known that their operation says no of every case.
+#[derive(Drop)]
+struct Descent<'t, 'm> {
+    left: &'t [u32],
+    right: &'t [u32],
     job: Job,
-    level: BddVariable,
-    pair: Pair,
-) -> bool
-    requires { Implying a.now b.now memo.old job level.0 pair.left.0 pair.right.0 }
-    ensures { Implies a.now b.now memo.new job level.0 pair.left.0 pair.right.0 result }
-{
-    let step = join::split(a, b, &*memo, job, pair);
-    let Step::Fork(cut) = step else {
-        return join::known_of(step).0 == 0;
-    };
-    let next = BddVariable(cut.level.0 + 1);
-    if !says_no(a, b, memo, job, next, cut.low) {
-        return false;
+    memo: &'m mut [u32],
+    ghost ready: { Ready left.now right.now memo.now job } by { Prim.hlevel (props, tree_set) },
+}
+
+impl Descent<'_, '_> {
+    fn split(&self, pair: Pair) -> Step
+        requires { Splitting self.now.left.now self.now.right.now self.now.memo.now self.now.job pair.left.0 pair.right.0 }
+        ensures { Splits self.now.left.now self.now.right.now self.now.memo.now self.now.job pair.left.0 pair.right.0 result }
+    {
+        join::split(self.left, self.right, self.memo, self.job, pair)
     }
-    if !says_no(a, b, memo, job, next, cut.high) {
-        return false;
+
+    // No for every case below a pair.
+    fn says_no(&mut self, level: BddVariable, pair: Pair) -> bool
+        requires { Standing self.old.left.now self.old.right.now self.old.job level.0 pair.left.0 pair.right.0 }
+        ensures same_memo { self.new.memo.ghost_name ≡ self.old.memo.ghost_name }
+        ensures long { length self.new.memo.now ≡ length self.old.memo.now }
+        ensures input { (self.new.left.now ≡ self.old.left.now) × (self.new.right.now ≡ self.old.right.now) × (self.new.job ≡ self.old.job) }
+        ensures empty { SaysEmpty self.old.left.now self.old.right.now self.old.job level.0 pair.left.0 pair.right.0 result }
+    {
+        let cut = match self.split(pair) {
+            Step::Known(r) => return r.0 == 0,
+            Step::Fork(cut) => cut,
+        };
+        let next = BddVariable(cut.level.0 + 1);
+        if !self.says_no(next, cut.low) || !self.says_no(next, cut.high) {
+            return false;
+        }
+        join::remember(self.memo, cut.pair.left, cut.pair.right, BddPointer(0));
+        true
     }
-    join::remember(memo, cut.pair.left, cut.pair.right, BddPointer(0));
-    true
 }
 
 // No for every case, of two whole tables.
@@ -41,8 +56,14 @@ pub fn tables_say_no(a: &[u32], b: &[u32], memo: &mut [u32], job: Job) -> bool
     requires { Asking a.now b.now memo.old job }
     ensures { SaysNo job.n (joined_by a.now b.now job) result }
 {
-    refusal::zero_u32_from(memo, 0);
+    memo.fill(0);
+    let mut descent = Descent {
+        left: a,
+        right: b,
+        job,
+        memo,
+    };
     let left = BddPointer(job.left.count - 1);
     let right = BddPointer(job.right.count - 1);
-    says_no(a, b, memo, job, BddVariable(0), Pair { left, right })
+    descent.says_no(BddVariable(0), Pair { left, right })
 }

@@ -1,14 +1,15 @@
 -- The memory: a store adds one entry to what its place held. The left node and the place tell the right node.
-use mathlib.Core.Path.{◌≡◌, sym, ap, ◌∙◌}
+use mathlib.Core.Path.{◌≡◌, sym, ap, subst, ◌∙◌}
 use mathlib.Core.Logic.{◌⊎◌, inl, inr}
 use mathlib.Core.List.{List}
-use Prim.Native.Nat.{ℕ, zero, suc, ◌+◌, ◌*◌, ◌/◌, ◌%◌, ◌<◌, ◌≤◌}
+use Prim.Native.Nat.{ℕ, zero, suc, ◌+◌, ◌*◌, ◌/◌, ◌%◌, ◌-◌, ◌<◌, ◌≤◌}
 use native.Mathlib.Omega.{arith}
 use native.Mathlib.Nat.{div-add-mod', mul-le-mul_right, suc-mul, mod-lt}
 use native.Mathlib.Decide.{ℕ_discrete, dec_lt}
 use lib.ListN.{length, get_or, set, length-set}
 use lib.Seq.{get_or-set_same, get_or-set_other}
 use Rattle.refusal.specs.Limits.{max_nodes}
+use Rattle.std.specs.List.{CopiedTo, SameBelow, SameFrom}
 use Rattle.join.specs.Memo.{ways, slot_of, entry_of, Remembers, Stores}
 
 -- a larger quotient is a whole divisor more
@@ -30,56 +31,25 @@ mod_same c y y' d h h' e =
     ]
 
 -- the entries of one place, moved up, and a new one before them
-abbrev pub pushed_in : List ℕ → ℕ → ℕ → List ℕ
-pushed_in m f e =
-    let m₁ : List ℕ = set m (f + 3) (get_or m (f + 2) 0) in
-    let m₂ : List ℕ = set m₁ (f + 2) (get_or m₁ (f + 1) 0) in
-    let m₃ : List ℕ = set m₂ (f + 1) (get_or m₂ f 0) in
-    set m₃ f e
+pub record Pushed (m m' : List ℕ) (f e : ℕ) : Type 0 where
+  pub same_length : length m' ≡ length m
+  pub first : get_or m' f 0 ≡ e
+  pub moved : (i : ℕ) → suc i < ways → get_or m' (f + suc i) 0 ≡ get_or m (f + i) 0
+  pub kept : (i : ℕ) → (i < f) ⊎ (f + 3 < i) → get_or m' i 0 ≡ get_or m i 0
 
-module _ (m : List ℕ) (f e : ℕ) (within : f + 3 < length m) where
-  abbrev m₁ : List ℕ
-  m₁ = set m (f + 3) (get_or m (f + 2) 0)
-
-  abbrev m₂ : List ℕ
-  m₂ = set m₁ (f + 2) (get_or m₁ (f + 1) 0)
-
-  abbrev m₃ : List ℕ
-  m₃ = set m₂ (f + 1) (get_or m₂ f 0)
-
-  first-is : get_or (pushed_in m f e) f 0 ≡ e
-  first-is = get_or-set_same m₃ f e 0 (simp length-set (omega arith))
-
-  moved : (i : ℕ) → suc i < ways → get_or (pushed_in m f e) (f + suc i) 0 ≡ get_or m (f + i) 0
-  moved zero h =
-      let z : f + 0 ≡ f = omega arith in
-      get_or-set_other m₃ f (f + 1) e 0 (omega arith)
-      ∙ get_or-set_same m₂ (f + 1) (get_or m₂ f 0) 0 (simp length-set (omega arith))
-      ∙ get_or-set_other m₁ (f + 2) f _ 0 (omega arith)
-      ∙ get_or-set_other m (f + 3) f _ 0 (omega arith)
-      ∙ ap (λ i. get_or m i 0) (sym z)
-  moved (suc zero) h =
-      get_or-set_other m₃ f (f + 2) e 0 (omega arith)
-      ∙ get_or-set_other m₂ (f + 1) (f + 2) _ 0 (omega arith)
-      ∙ get_or-set_same m₁ (f + 2) (get_or m₁ (f + 1) 0) 0 (simp length-set (omega arith))
-      ∙ get_or-set_other m (f + 3) (f + 1) _ 0 (omega arith)
-  moved (suc (suc zero)) h =
-      get_or-set_other m₃ f (f + 3) e 0 (omega arith)
-      ∙ get_or-set_other m₂ (f + 1) (f + 3) _ 0 (omega arith)
-      ∙ get_or-set_other m₁ (f + 2) (f + 3) _ 0 (omega arith)
-      ∙ get_or-set_same m (f + 3) (get_or m (f + 2) 0) 0 (omega arith)
-  moved (suc (suc (suc i))) h = absurd (let z : ⊥ = omega arith in z)
-
-  kept : (i : ℕ) → (i < f) ⊎ (f + 3 < i) → get_or (pushed_in m f e) i 0 ≡ get_or m i 0
-  kept i h =
-      get_or-set_other m₃ f i e 0 (λ z. apart 0 (omega arith) h (omega arith))
-      ∙ get_or-set_other m₂ (f + 1) i _ 0 (apart 1 (omega arith) h)
-      ∙ get_or-set_other m₁ (f + 2) i _ 0 (apart 2 (omega arith) h)
-      ∙ get_or-set_other m (f + 3) i _ 0 (apart 3 (omega arith) h)
-    where
-      apart : (d : ℕ) → d < ways → (i < f) ⊎ (f + 3 < i) → i ≡ f + d → ⊥
-      apart d k (inl lt) e = omega arith
-      apart d k (inr gt) e = omega arith
+pub pushed_at : (m m₁ : List ℕ) (f e end : ℕ) → f + 3 < length m → end ≡ f + 3 → length m₁ ≡ length m
+    → CopiedTo m m₁ f (f + 1) (end - f) × SameBelow m m₁ (f + 1) × SameFrom m m₁ (f + 1 + (end - f)) → Pushed m (set m₁ f e) f e
+pushed_at m m₁ f e end within last len c = record {
+  same_length = length-set m₁ f e ∙ len;
+  first = get_or-set_same m₁ f e 0 (omega arith);
+  moved = λ i h.
+      let at : f + (f + suc i - (f + 1)) ≡ f + i = omega arith in
+      get_or-set_other m₁ f (f + suc i) e 0 (omega arith) ∙ c.0 (f + suc i) 0 (omega arith) (omega arith) ∙ ap (λ j. get_or m j 0) at;
+  kept = λ i h. elim h [
+    | inl lt ↦ get_or-set_other m₁ f i e 0 (omega arith) ∙ c.1 i 0 (omega arith)
+    | inr gt ↦ get_or-set_other m₁ f i e 0 (omega arith) ∙ c.2 i 0 (omega arith)
+  ];
+}
 
 pub slot-within : (sets x y : ℕ) → 0 < sets → slot_of sets x y < sets
 unfolding slot_of
@@ -93,15 +63,12 @@ slot-tells : (sets x y y' : ℕ) → y < sets → y' < sets → slot_of sets x y
 unfolding slot_of
 slot-tells sets x y y' h h' e = mod_same (x * 40111 / 16) y y' sets h h' e
 
-module _ (m : List ℕ) (x y r : ℕ) (long : ways ≤ length m) (small : r < max_nodes) (m' : List ℕ) (is : m' ≡ pushed_in m (ways * slot_of (length m / ways) x y) (entry_of x r)) where
+module _ (m : List ℕ) (x y r : ℕ) (long : ways ≤ length m) (small : r < max_nodes) (m' : List ℕ) (is : Pushed m m' (ways * slot_of (length m / ways) x y) (entry_of x r)) where
   abbrev sets : ℕ
   sets = length m / ways
 
   abbrev from : ℕ
   from = ways * slot_of sets x y
-
-  same_length : length m' ≡ length m
-  same_length = ap length is ∙ simp length-set
 
   stored : (x' y' r' way : ℕ) → y < sets → y' < sets → way < ways → r' < max_nodes → get_or m' (ways * slot_of sets x' y' + way) 0 ≡ entry_of x' r'
       → ((x' ≡ x) × (y' ≡ y) × (r' ≡ r)) ⊎ Remembers m x' y' r'
@@ -114,7 +81,7 @@ module _ (m : List ℕ) (x y r : ℕ) (long : ways ≤ length m) (small : r < ma
   ]
     where
       there : (ways * slot_of sets x' y' + way < from) ⊎ (from + 3 < ways * slot_of sets x' y' + way) → get_or m' (ways * slot_of sets x' y' + way) 0 ≡ get_or m (ways * slot_of sets x' y' + way) 0
-      there h = ap (λ l. get_or l (ways * slot_of sets x' y' + way) 0) is ∙ kept m from (entry_of x r) (room_within m x y long) _ h
+      there h = is.kept _ h
 
       here : (w : ℕ) → slot_of sets x' y' ≡ slot_of sets x y → w < ways → get_or m' (ways * slot_of sets x' y' + w) 0 ≡ entry_of x' r' → ((x' ≡ x) × (y' ≡ y) × (r' ≡ r)) ⊎ Remembers m x' y' r'
       here zero d h e =
@@ -124,7 +91,7 @@ module _ (m : List ℕ) (x y r : ℕ) (long : ways ≤ length m) (small : r < ma
           inl (ex, sym (slot-tells sets x y y' hy hy' (sym d ∙ ap (λ z. slot_of sets z y') ex)), omega arith)
         where
           ap₂_at : ways * slot_of sets x' y' + 0 ≡ from → get_or m' (ways * slot_of sets x' y' + 0) 0 ≡ entry_of x r
-          ap₂_at z = ap (λ i. get_or m' i 0) z ∙ ap (λ l. get_or l from 0) is ∙ first-is m from (entry_of x r) (room_within m x y long)
+          ap₂_at z = ap (λ i. get_or m' i 0) z ∙ is.first
       here (suc i) d h e =
           let z : ways * slot_of sets x' y' + suc i ≡ from + suc i = omega arith in
           let z' : ways * slot_of sets x' y' + i ≡ from + i = omega arith in
@@ -134,17 +101,17 @@ module _ (m : List ℕ) (x y r : ℕ) (long : ways ≤ length m) (small : r < ma
             small = hr;
             entry =
                 ap (λ j. get_or m j 0) z'
-                ∙ sym (ap (λ j. get_or m' j 0) z ∙ ap (λ l. get_or l (from + suc i) 0) is ∙ moved m from (entry_of x r) (room_within m x y long) i h)
+                ∙ sym (ap (λ j. get_or m' j 0) z ∙ is.moved i h)
                 ∙ e;
           })
 
   pub stores : Stores m m' x y r
   stores x' y' r' hy hy' h =
-      stored x' y' r' h.way hy hy' h.within h.small (ap (λ d. get_or m' (ways * slot_of (d / ways) x' y' + h.way) 0) (sym same_length) ∙ h.entry)
+      stored x' y' r' h.way hy hy' h.within h.small (ap (λ d. get_or m' (ways * slot_of (d / ways) x' y' + h.way) 0) (sym is.same_length) ∙ h.entry)
 
 -- the same, with the place at hand
-pub stores_at : (m : List ℕ) (x y r slot : ℕ) → slot ≡ slot_of (length m / ways) x y → ways ≤ length m → r < max_nodes → (m' : List ℕ) → m' ≡ pushed_in m (ways * slot) (entry_of x r) → Stores m m' x y r
-stores_at m x y r slot e long small m' is = stores m x y r long small m' (is ∙ ap (λ f. pushed_in m (ways * f) (entry_of x r)) e)
+pub stores_at : (m : List ℕ) (x y r slot : ℕ) → slot ≡ slot_of (length m / ways) x y → ways ≤ length m → r < max_nodes → (m' : List ℕ) → Pushed m m' (ways * slot) (entry_of x r) → Stores m m' x y r
+stores_at m x y r slot e long small m' is = stores m x y r long small m' (subst (λ f. Pushed m m' (ways * f) (entry_of x r)) e is)
 
 -- an entry that has the pair's tag
 pub recalled : (m : List ℕ) (x y i slot : ℕ) → slot ≡ slot_of (length m / ways) x y → i < ways → get_or m (ways * slot + i) 0 / max_nodes ≡ x + 1

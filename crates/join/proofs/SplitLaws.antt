@@ -13,15 +13,12 @@ use Rattle.theory.proofs.Step.{Stands, stands-step}
 use Rattle.theory.proofs.Words.{length-nodes, at-nodes}
 use Rattle.refusal.specs.Limits.{max_nodes}
 use Rattle.table.specs.Inspection.{SoundTable}
-use Rattle.table.specs.declared.BddPointer.{BddPointer}
-use Rattle.pool.specs.declared.Found.{Found}
-use Rattle.pool.specs.declared.Found.TheVariants.{At, Nowhere}
 use Rattle.join.specs.declared.Job.{Job}
 use Rattle.join.specs.declared.Pair.{Pair}
 use Rattle.join.specs.declared.Cut.{Cut}
 use Rattle.join.specs.Task.{Task, step_in, pair_tree, top}
 use Rattle.join.specs.Memo.{ways}
-use Rattle.join.specs.Joining.{task_of, both, by_left, by_right, Sure, sure, remembered, Answered, Knowing, Placed, Cuts, Splitting, Has, Parted}
+use Rattle.join.specs.Joining.{task_of, both, by_left, by_right, Sure, sure, remembered, Answered, Placed, Cuts, Splitting, Has, Parted}
 use Rattle.join.proofs.LeafLaws.{step_in_lem}
 use Rattle.join.proofs.PairLaws.{mark_most, Past, past, past-tree, walk-level, tree-fork, left-decides, right-decides, both_decide, means_hit}
 
@@ -96,17 +93,10 @@ module _ (a b m : List ℕ) (j : Job) (x y : ℕ) (g : Splitting a b m j x y) wh
     sure-walk r (by_right hy e) s l h = right-decides T oa ob x' y' l r right-past.lies hy h e s
 
     -- what is known of the pair is its node
-    known_has : (r : ℕ) → Answered j.op m x' y' r → Has T m x y r
+    pub known_has : (r : ℕ) → Answered j.op m x' y' r → Has T m x y r
     known_has r (sure d) s good knows l h = same-walk s l h ∙ sure-walk r d s l (falls l h).1
     known_has r (remembered d) s good knows l h =
         same-walk s l h ∙ means_hit T oa ob s good x' y' r left-past.lies (knows x' y' r left-past.lies right-past.lies d) l (falls l h).0
-
-    module _ (found : Found) (knowing : Knowing j.op m x' y' found) where
-      pub split-known : (r : BddPointer) → found ≡ At r → Has T m x y r.0
-      split-known r e = known_has r.0 (subst (Knowing j.op m x' y') e knowing)
-
-      pub undecided : found ≡ Nowhere → x' < 2 → y' < 2 → ⊥
-      undecided e = subst (Knowing j.op m x' y') e knowing
 
     pub both-placed : Placed a x' × Placed b y'
     both-placed = (node-placed n j.left.count a g.operands.left x' x_in', node-placed n j.right.count b g.operands.right y' y_in')

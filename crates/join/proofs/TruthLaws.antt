@@ -3,7 +3,9 @@ use mathlib.Core.Path.{◌≡◌, refl}
 use mathlib.Core.Bool.{Bool, true, false, not, ◌||◌, ◌&&◌}
 use Rattle.theory.specs.Mask.{bit}
 use Rattle.theory.specs.Tree.{and_not}
-use Rattle.join.specs.Task.{op_of}
+use Rattle.join.specs.declared.Operation.{Operation}
+use Rattle.join.specs.declared.Operation.TheVariants.{And, Or, AndNot}
+use Rattle.join.specs.Task.{truth_table, answer_of, op_of}
 
 pub and-table : op_of 8 ≡ ◌&&◌
 unfolding op_of bit
@@ -34,3 +36,9 @@ and_not-table = λ i x y. entry x y i
     entry true false = refl
     entry false true = refl
     entry false false = refl
+
+-- an operation's number is its truth table
+pub table_answers : (op : Operation) → op_of (truth_table op) ≡ answer_of op
+table_answers And = and-table
+table_answers Or = or-table
+table_answers AndNot = and_not-table

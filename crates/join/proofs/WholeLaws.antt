@@ -1,31 +1,27 @@
 -- The whole join: from the constants and an empty memory to the canonical table.
-use mathlib.Core.Path.{◌≡◌, refl, sym, ap, ap₂, subst, ◌∙◌}
-use mathlib.Core.List.{List, [], ◌∷◌}
-use Prim.Native.Nat.{ℕ, zero, suc, ◌+◌, ◌-◌, ◌*◌, ◌/◌, ◌<◌, ◌≤◌}
+use mathlib.Core.Path.{◌≡◌, sym, ap, ap₂, subst, ◌∙◌}
+use mathlib.Core.List.{List}
+use Prim.Native.Nat.{ℕ, ◌+◌, ◌-◌, ◌*◌, ◌/◌, ◌<◌, ◌≤◌}
 use native.Mathlib.Omega.{arith}
 use native.Mathlib.Nat.{zero-add, sub-zero}
-use native.Mathlib.Decide.{dec_lt}
 use lib.Dec.{ltb}
 use lib.ListN.{length, get_or, take, replicate, get_or-replicate}
-use borrow.Author.Tests.{lt-ltb, le-ltb}
 use Rattle.theory.specs.Tree.{Deep, pointwise, cofactor}
-use Rattle.theory.specs.Table.{Table, at, tree_of, walk, constants, canon, cut, meaning, Ordered, Good}
+use Rattle.theory.specs.Table.{tree_of, walk, constants, canon, meaning, Ordered, Good}
 use Rattle.theory.specs.Words.{nodes}
-use Rattle.theory.proofs.Words.{length-nodes, at-nodes}
-use Rattle.theory.proofs.Walk.{sound}
+use Rattle.theory.proofs.Words.{length-nodes}
 use Rattle.theory.proofs.Canon.{constants-good}
-use Rattle.theory.proofs.Again.{tree_set, tree_set-cofactor, room-canon}
+use Rattle.theory.proofs.Again.{tree_set, tree_set-cofactor}
 use Rattle.refusal.specs.Buffers.{padded}
-use Rattle.table.specs.declared.BddPointer.{BddPointer}
-use Rattle.making.specs.declared.Tabled.TheVariants.{Count, Over}
 use Rattle.making.specs.Made.{Leaves}
-use Rattle.pool.specs.declared.Noted.{Noted}
-use Rattle.pool.specs.declared.Noted.TheVariants.{Node as Got, Full}
+use Rattle.std.specs.Prelude.{Option, Some, None, Result}
+use Rattle.table.specs.declared.BddPointer.{BddPointer}
+use Rattle.pool.specs.Pool.{Answers, whole_table}
+use Rattle.pool.proofs.WholeLaws.{whole_leaves}
 use Rattle.join.specs.declared.Job.{Job}
 use Rattle.join.specs.Task.{Operand, Task, op_of, tree_by, pair_of, pair_tree}
 use Rattle.join.specs.Memo.{ways, slot_of, Remembers}
-use Rattle.join.specs.Joining.{task_of, joined_by, Joining, Joined, Joins, Given, cut_count}
-use Rattle.join.proofs.LeafLaws.{count-root}
+use Rattle.join.specs.Joining.{task_of, joined_by, Joining, Joins, Given}
 use Rattle.join.proofs.MemoLaws.{slot-within}
 use Rattle.join.proofs.PairLaws.{tree-deep}
 
@@ -93,49 +89,10 @@ module _ (a b out m : List ℕ) (j : Job) (g : Given a b out m j) where
     whole-walk : walk (nodes 2 out₁) 0 (pair_tree T 0 x y) ≡ walk (constants n) 0 (joined_by a b j)
     whole-walk = ap₂ (λ s t. walk s 0 t) starts (tree_is a b j)
 
-    module _ (out₂ m₂ : List ℕ) (z : Noted) (joins : Joins a b out₁ out₂ m₂ j 0 2 x y z) where
-      pub whole-over : z ≡ Full → Leaves (ltb j.room (length (canon n (joined_by a b j)))) 0 (canon n (joined_by a b j)) out₂ (Over 0)
-      whole-over e =
-          let full : j.room < length (walk (nodes 2 out₁) 0 (pair_tree T 0 x y)).0 = subst (Joins a b out₁ out₂ m₂ j 0 2 x y) e joins in
-          let over : j.room < length (walk (constants n) 0 (joined_by a b j)).0 = rw whole-walk at full in
-          (lt-ltb _ _ (larger (dec_lt j.room (length (canon n (joined_by a b j)))) over), refl)
-        where
-          larger : Dec (j.room < length (canon n (joined_by a b j))) → j.room < length (walk (constants n) 0 (joined_by a b j)).0 → j.room < length (canon n (joined_by a b j))
-          larger (yes h) over = h
-          larger (no h) over = absurd (let z : ⊥ = omega (arith, (room-canon n (joined_by a b j) deep j.room g.some).1 (omega arith)) in z)
-
-      module _ (o : BddPointer) (k : ℕ) (got : z ≡ Got o k) (n₂ : length out₂ ≡ length out₁) where
-        joined : Joined a b out₁ out₂ m₂ j 0 2 x y o.0 k
-        joined = subst (Joins a b out₁ out₂ m₂ j 0 2 x y) got joins
-
-        is : walk (constants n) 0 (joined_by a b j) ≡ (nodes k out₂, o.0)
-        is = sym whole-walk ∙ joined.holds.is
-
-        good : Good n (nodes k out₂)
-        good = subst (λ (w : Table × ℕ). Good n w.0) is (sound n n (joined_by a b j) deep 0 (omega arith) (constants n) (constants-good n)).good
-
-        canon-is : canon n (joined_by a b j) ≡ cut n (nodes k out₂, o.0)
-        unfolding canon
-        canon-is = ap (cut n) is
-
-        fits : length (canon n (joined_by a b j)) ≤ j.room
-        fits =
-            let short : length (walk (constants n) 0 (joined_by a b j)).0 ≤ j.room = omega (arith, ap (λ (w : Table × ℕ). length w.0) is, length-nodes k out₂, joined.holds.fits) in
-            (room-canon n (joined_by a b j) deep j.room g.some).0 short
-
-        cut-nodes : (p : ℕ) → nodes (cut_count p k) out₂ ≡ cut n (nodes k out₂, p)
-        unfolding cut_count nodes
-        cut-nodes zero = ap (λ x. x ∷ []) (sym (at-nodes k out₂ 0 (omega (arith, good.both, length-nodes k out₂))) ∙ good.ordered.first)
-        cut-nodes (suc p) = ap (λ c. nodes c out₂) (sym (count-root (suc p) k (λ e. omega arith)))
-
-        count_fits : (p : ℕ) → cut_count p k ≤ k
-        unfolding cut_count
-        count_fits zero = omega (arith, good.both, length-nodes k out₂)
-        count_fits (suc p) = omega (arith, count-root (suc p) k (λ e. omega arith))
-
-        pub whole-count : (c : ℕ) → c ≡ cut_count o.0 k → Leaves (ltb j.room (length (canon n (joined_by a b j)))) 0 (canon n (joined_by a b j)) out₂ (Count c)
-        whole-count c e = (
-          omega (arith, count_fits o.0, joined.holds.fits, g.long),
-          ap (λ k. nodes k out₂) e ∙ cut-nodes o.0 ∙ sym canon-is,
-          le-ltb _ _ fits,
-        )
+    pub joined_left : (out₂ m₂ : List ℕ) (answer : Option (BddPointer × ℕ)) → length out₂ ≡ length out₁ → Joins a b out₁ out₂ m₂ j 0 2 x y answer → (tabled : Result ℕ ℕ) → tabled ≡ whole_table answer
+        → Leaves (ltb j.room (length (canon n (joined_by a b j)))) 0 (canon n (joined_by a b j)) out₂ tabled
+    joined_left out₂ m₂ answer same joins tabled is = rw is (whole_leaves n j.room (joined_by a b j) deep g.some out₂ (omega (arith, g.long)) answer (answers answer joins))
+      where
+        answers : (answer : Option (BddPointer × ℕ)) → Joins a b out₁ out₂ m₂ j 0 2 x y answer → Answers (walk (constants n) 0 (joined_by a b j)) j.room out₂ answer
+        answers (Some (r, k)) c = rw whole-walk at c.holds
+        answers None c = rw whole-walk at c

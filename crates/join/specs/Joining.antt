@@ -1,24 +1,20 @@
 -- What the functions of the join ask and ensure.
-use Rattle.std.specs.Prelude.{◌≡◌, Bool, true, false, cond, List, ℕ, suc, ◌+◌, ◌-◌, ◌*◌, ◌/◌, ◌<◌, ◌≤◌, min, eqb, length}
+use Rattle.std.specs.Prelude.{◌≡◌, Bool, true, false, Option, Some, None, List, ℕ, suc, ◌+◌, ◌-◌, ◌*◌, ◌/◌, ◌<◌, ◌≤◌, min, length}
 use Rattle.theory.specs.Tree.{Tree, fork, pointwise, cofactor}
-use Rattle.theory.specs.Table.{Table, truth, num, mk, walk, meaning, Good}
+use Rattle.theory.specs.Table.{Table, truth, num, walk, meaning, Good}
 use Rattle.theory.specs.Words.{stride, node_at, nodes}
 use Rattle.theory.proofs.Step.{Stands}
 use Rattle.refusal.specs.Limits.{min_room, max_marks, max_nodes}
 use Rattle.table.specs.declared.BddPointer.{BddPointer}
 use Rattle.table.specs.Inspection.{SoundTable}
-use Rattle.pool.specs.declared.Found.{Found}
-use Rattle.pool.specs.declared.Found.TheVariants.{At, Nowhere}
-use Rattle.pool.specs.declared.Noted.{Noted}
-use Rattle.pool.specs.declared.Noted.TheVariants.{Node as Got, Full}
-use Rattle.pool.specs.Pool.{Pushing, Noding, Holds}
+use Rattle.pool.specs.Pool.{Pushing, Holds}
 use Rattle.join.specs.declared.Job.{Job}
 use Rattle.join.specs.declared.Pair.{Pair}
 use Rattle.join.specs.declared.Cut.{Cut}
 use Rattle.join.specs.declared.Step.{Step}
 use Rattle.join.specs.declared.Step.TheVariants.{Known, Fork}
 use Rattle.join.specs.Task.{Task, op_of, step_in, pair_tree, top, Means}
-use Rattle.join.specs.Memo.{ways, Remembers, Stores}
+use Rattle.join.specs.Memo.{ways, Remembers}
 
 -- the job over its two tables
 abbrev pub task_of : List ℕ → List ℕ → Job → Task
@@ -37,10 +33,10 @@ joined_by a b j =
     (cofactor j.right.variable.0 j.right.value (meaning j.n (nodes j.right.count b)))
 
 -- ---- what is known at once
--- one answer, whatever the other operand says
-abbrev pub Decides : (Bool → Bool) → Found → Type 0
-Decides g (At r) = (v : Bool) → r.0 ≡ num (g v)
-Decides g Nowhere = Unit {0}
+-- one answer for both cases
+abbrev pub Agrees : ℕ → ℕ → Option BddPointer → Type 0
+Agrees x y (Some r) = (r.0 ≡ x) × (r.0 ≡ y)
+Agrees x y None = Unit {0}
 
 -- why r is the pair's answer
 pub data Sure (op : ℕ) (x y r : ℕ) : Type 0 where
@@ -48,17 +44,17 @@ pub data Sure (op : ℕ) (x y r : ℕ) : Type 0 where
   by_left : x < 2 → ((v : Bool) → r ≡ num (op_of op (truth x) v)) → Sure op x y r
   by_right : y < 2 → ((v : Bool) → r ≡ num (op_of op v (truth y))) → Sure op x y r
 
-abbrev pub Deciding : ℕ → ℕ → ℕ → Found → Type 0
-Deciding op x y (At r) = Sure op x y r.0
-Deciding op x y Nowhere = x < 2 → y < 2 → ⊥
+abbrev pub Deciding : ℕ → ℕ → ℕ → Option BddPointer → Type 0
+Deciding op x y (Some r) = Sure op x y r.0
+Deciding op x y None = x < 2 → y < 2 → ⊥
 
 pub data Answered (op : ℕ) (m : List ℕ) (x y r : ℕ) : Type 0 where
   sure : Sure op x y r → Answered op m x y r
   remembered : Remembers m x y r → Answered op m x y r
 
-abbrev pub Knowing : ℕ → List ℕ → ℕ → ℕ → Found → Type 0
-Knowing op m x y (At r) = Answered op m x y r.0
-Knowing op m x y Nowhere = x < 2 → y < 2 → ⊥
+abbrev pub Knowing : ℕ → List ℕ → ℕ → ℕ → Option BddPointer → Type 0
+Knowing op m x y (Some r) = Answered op m x y r.0
+Knowing op m x y None = x < 2 → y < 2 → ⊥
 
 -- ---- a pair split
 -- a node that lies in the words, with its mark within the limit
@@ -112,26 +108,6 @@ abbrev pub Splits : List ℕ → List ℕ → List ℕ → Job → ℕ → ℕ �
 Splits a b m j x y (Known r) = Has (task_of a b j) m x y r.0
 Splits a b m j x y (Fork c) = Parted (task_of a b j) x y c
 
-abbrev pub known_in : Step → BddPointer
-known_in (Known r) = r
-known_in (Fork c) = c.pair.left
-
--- ---- a node over two sides
-pub record Settling (out m : List ℕ) (j : Job) (k : ℕ) (c : Cut) (p q : ℕ) : Type 0 where
-  pub few : j.room ≤ max_nodes
-  pub memory : ways ≤ length m
-  pub left : c.pair.left.0 < max_nodes
-  pub right : c.pair.right.0 < max_nodes
-  pub noding : Noding out j.n j.room k c.level.0 p q
-
-pub record Settled (out out' m m' : List ℕ) (j : Job) (k : ℕ) (c : Cut) (p q r k' : ℕ) : Type 0 where
-  pub holds : Holds (mk (nodes k out) c.level.0 p q) j.room out' r k'
-  pub stores : Stores m m' c.pair.left.0 c.pair.right.0 r
-
-abbrev pub Settles : List ℕ → List ℕ → List ℕ → List ℕ → Job → ℕ → Cut → ℕ → ℕ → Noted → Type 0
-Settles out out' m m' j k c p q (Got r k') = Settled out out' m m' j k c p q r.0 k'
-Settles out out' m m' j k c p q Full = j.room < length (mk (nodes k out) c.level.0 p q).0
-
 -- ---- the descent
 pub record Joining (a b out m : List ℕ) (j : Job) (l k x y : ℕ) : Type 0 where
   pub operands : Operands a b m j
@@ -142,13 +118,30 @@ pub record Joining (a b out m : List ℕ) (j : Job) (l k x y : ℕ) : Type 0 whe
   pub right : Stands (nodes j.right.count b) l y
   pub known : Knows (task_of a b j) m (nodes k out)
 
+-- what the descent holds at every pair
+pub record Ready (a b out m : List ℕ) (j : Job) (k : ℕ) : Type 0 where
+  pub operands : Operands a b m j
+  pub few : j.room ≤ max_nodes
+  pub pushing : Pushing out j.room k
+  pub good : Good j.n (nodes k out)
+  pub known : Knows (task_of a b j) m (nodes k out)
+
+-- a pair that both tables have, from a level on
+abbrev pub Standing : List ℕ → List ℕ → Job → ℕ → ℕ → ℕ → Type 0
+Standing a b j l x y = Stands (nodes j.left.count a) l x × Stands (nodes j.right.count b) l y
+
+-- the pair's node, and the output with k' nodes; or no room for it
+abbrev pub Walks : List ℕ → List ℕ → List ℕ → List ℕ → Job → ℕ → ℕ → ℕ → ℕ → ℕ → Option BddPointer → Type 0
+Walks a b out out' j l k k' x y (Some r) = walk (nodes k out) l (pair_tree (task_of a b j) l x y) ≡ (nodes k' out', r.0)
+Walks a b out out' j l k k' x y None = j.room < length (walk (nodes k out) l (pair_tree (task_of a b j) l x y)).0
+
 pub record Joined (a b out out' m' : List ℕ) (j : Job) (l k x y r k' : ℕ) : Type 0 where
   pub holds : Holds (walk (nodes k out) l (pair_tree (task_of a b j) l x y)) j.room out' r k'
   pub known : Knows (task_of a b j) m' (nodes k' out')
 
-abbrev pub Joins : List ℕ → List ℕ → List ℕ → List ℕ → List ℕ → Job → ℕ → ℕ → ℕ → ℕ → Noted → Type 0
-Joins a b out out' m' j l k x y (Got r k') = Joined a b out out' m' j l k x y r.0 k'
-Joins a b out out' m' j l k x y Full = j.room < length (walk (nodes k out) l (pair_tree (task_of a b j) l x y)).0
+abbrev pub Joins : List ℕ → List ℕ → List ℕ → List ℕ → List ℕ → Job → ℕ → ℕ → ℕ → ℕ → Option (BddPointer × ℕ) → Type 0
+Joins a b out out' m' j l k x y (Some (r, k')) = Joined a b out out' m' j l k x y r.0 k'
+Joins a b out out' m' j l k x y None = j.room < length (walk (nodes k out) l (pair_tree (task_of a b j) l x y)).0
 
 -- ---- the whole
 pub record Given (a b out m : List ℕ) (j : Job) : Type 0 where
@@ -156,7 +149,3 @@ pub record Given (a b out m : List ℕ) (j : Job) : Type 0 where
   pub some : min_room ≤ j.room
   pub few : j.room ≤ max_nodes
   pub long : stride * j.room ≤ length out
-
--- false is one node
-unfoldable pub cut_count : ℕ → ℕ → ℕ
-cut_count root k = cond (eqb root 0) 1 k

@@ -1,8 +1,7 @@
 -- The memory of a descent: what was answered for a pair of nodes. Which entry gives way is in no contract.
-use Rattle.std.specs.Prelude.{◌≡◌, ◌⊎◌, List, ℕ, ◌+◌, ◌*◌, ◌/◌, ◌%◌, ◌<◌, length, get_or}
+use Rattle.std.specs.Prelude.{◌≡◌, ◌⊎◌, Option, Some, None, List, ℕ, ◌+◌, ◌*◌, ◌/◌, ◌%◌, ◌<◌, length, get_or}
 use Rattle.refusal.specs.Limits.{max_nodes}
-use Rattle.pool.specs.declared.Found.{Found}
-use Rattle.pool.specs.declared.Found.TheVariants.{At, Nowhere}
+use Rattle.table.specs.declared.BddPointer.{BddPointer}
 
 -- the entries that stand at one place
 abbrev pub ways : ℕ
@@ -23,9 +22,9 @@ pub record Remembers (m : List ℕ) (x y r : ℕ) : Type 0 where
   pub small : r < max_nodes
   pub entry : get_or m (ways * slot_of (length m / ways) x y + way) 0 ≡ entry_of x r
 
-abbrev pub Recalls : List ℕ → ℕ → ℕ → Found → Type 0
-Recalls m x y (At r) = Remembers m x y r.0
-Recalls m x y Nowhere = Unit {0}
+abbrev pub Recalls : List ℕ → ℕ → ℕ → Option BddPointer → Type 0
+Recalls m x y (Some r) = Remembers m x y r.0
+Recalls m x y None = Unit {0}
 
 -- after a store the memory holds no more than before, and the new entry
 abbrev pub Stores : List ℕ → List ℕ → ℕ → ℕ → ℕ → Type 0

@@ -1,11 +1,13 @@
 -- Two tables descended together: what a pair of nodes stands for.
-use Rattle.std.specs.Prelude.{◌≡◌, Bool, cond, List, ℕ, ◌+◌, ◌-◌, ◌*◌, min, eqb}
+use Rattle.std.specs.Prelude.{◌≡◌, Bool, ◌&&◌, ◌||◌, cond, List, ℕ, ◌+◌, ◌-◌, ◌*◌, min, eqb}
 use Rattle.theory.specs.Mask.{bit}
-use Rattle.theory.specs.Tree.{Tree, pointwise}
+use Rattle.theory.specs.Tree.{Tree, pointwise, and_not}
 use Rattle.theory.specs.Table.{Table, at, child_of, num, tree_of}
 use Rattle.theory.specs.Words.{node_at}
 use Rattle.theory.proofs.Again.{tree_set}
 use Rattle.theory.proofs.Step.{Stands}
+use Rattle.join.specs.declared.Operation.{Operation}
+use Rattle.join.specs.declared.Operation.TheVariants.{And, Or, AndNot}
 
 -- an operand: a table, and the mark that is set to a value on the way down (n: none)
 pub record Operand : Type 0 where
@@ -19,6 +21,18 @@ pub record Task : Type 0 where
   pub op : Bool → Bool → Bool
   pub left : Operand
   pub right : Operand
+
+-- an operation's truth table
+abbrev pub truth_table : Operation → ℕ
+truth_table And = 8
+truth_table Or = 14
+truth_table AndNot = 4
+
+-- what an operation answers
+abbrev pub answer_of : Operation → Bool → Bool → Bool
+answer_of And = ◌&&◌
+answer_of Or = ◌||◌
+answer_of AndNot = and_not
 
 -- an operation from its truth table: bit 2x + y answers x and y
 unfoldable pub op_of : ℕ → Bool → Bool → Bool

@@ -6,12 +6,12 @@ ghost use Rattle.theory.specs.Table.{truth, num, canon};
 ghost use Rattle.theory.specs.Words.{stride};
 ghost use Rattle.refusal.specs.Limits.{max_nodes};
 ghost use Rattle.making.specs.Made.{Leaves};
-ghost use Rattle.join.specs.Task.{op_of, step_in};
+ghost use Rattle.join.specs.Task.{op_of, truth_table, step_in};
 ghost use Rattle.join.specs.Memo.{ways, slot_of, Recalls, Stores};
-ghost use Rattle.join.specs.Joining.{Decides, Deciding, Knowing, Placed, Cuts, Splitting, Splits, known_in, Settling, Settles, Joining, Joins, cut_count, Given, joined_by};
+ghost use Rattle.std.proofs.Props.{props};
+ghost use Rattle.join.specs.Trees.{tree_set};
+ghost use Rattle.join.specs.Joining.{Agrees, Deciding, Knowing, Placed, Cuts, Splitting, Splits, Joining, Ready, Standing, Walks, Joins, Given, joined_by};
 
-use making::Tabled;
-use pool::{Found, Noted};
 use table::BddPointer;
 use valuation::BddVariable;
 
@@ -23,7 +23,31 @@ pub struct Side {
     pub value: bool,
 }
 
-// What is joined: the operation is a truth table, whose bit 2x + y answers x and y.
+// An operation of two answers. Its number is its truth table, whose bit 2x + y answers x and y.
+#[derive(Clone, Copy, PartialEq, Eq, Debug)]
+pub enum Operation {
+    And = 8,
+    Or = 14,
+    AndNot = 4,
+}
+
+impl Operation {
+    fn truth_table(self) -> u32
+        ensures { result ≡ truth_table self }
+    {
+        self as u32
+    }
+}
+
+// The truth table's answer for two constants.
+pub fn op_bit(op: u32, x: BddPointer, y: BddPointer) -> BddPointer
+    requires { (x.0 < 2) × (y.0 < 2) }
+    ensures { result.0 ≡ num (op_of op (truth x.0) (truth y.0)) }
+{
+    BddPointer((op >> (2 * x.0 + y.0)) % 2)
+}
+
+// What is joined, and by which truth table: any number is one.
 #[derive(Clone, Copy)]
 pub struct Job {
     pub n: u16,
@@ -31,6 +55,59 @@ pub struct Job {
     pub left: Side,
     pub right: Side,
     pub room: u32,
+}
+
+impl Job {
+    ghost use Rattle.join.specs.Jobs.{pair_job, mark_job};
+
+    // Two tables as they are.
+    pub fn pair(n: u16, op: Operation, left: usize, right: usize, room: usize) -> Job
+        requires { (left ≤ max_nodes) × (right ≤ max_nodes) × (room ≤ max_nodes) }
+        ensures { result ≡ pair_job n op left right room }
+    {
+        let none = BddVariable(n);
+        let left = Side {
+            count: left as u32,
+            variable: none,
+            value: false,
+        };
+        let right = Side {
+            count: right as u32,
+            variable: none,
+            value: false,
+        };
+        Job {
+            n,
+            op: op.truth_table(),
+            left,
+            right,
+            room: room as u32,
+        }
+    }
+
+    // One table twice: with the mark set to 0, and to 1.
+    pub fn mark(n: u16, op: Operation, count: usize, variable: BddVariable, room: usize) -> Job
+        requires { (count ≤ max_nodes) × (room ≤ max_nodes) }
+        ensures { result ≡ mark_job n op count variable room }
+    {
+        let left = Side {
+            count: count as u32,
+            variable,
+            value: false,
+        };
+        let right = Side {
+            count: count as u32,
+            variable,
+            value: true,
+        };
+        Job {
+            n,
+            op: op.truth_table(),
+            left,
+            right,
+            room: room as u32,
+        }
+    }
 }
 
 // A node of each operand.
@@ -49,6 +126,7 @@ pub struct Cut {
     pub high: Pair,
 }
 
+// Both are ways on, and neither is a failure: no Option, no Result.
 #[derive(Clone, Copy)]
 pub enum Step {
     Known(BddPointer),
@@ -69,42 +147,11 @@ pub fn step_to(bdd: &[u32], p: BddPointer, variable: BddVariable, value: bool) -
     table::low_link_of(bdd, p)
 }
 
-fn lesser(x: BddVariable, y: BddVariable) -> BddVariable
-    ensures { result.0 ≡ min x.0 y.0 }
+// The answer where both cases have the same one.
+fn agreed(no: BddPointer, yes: BddPointer) -> Option<BddPointer>
+    ensures { Agrees no.0 yes.0 result }
 {
-    if x.0 < y.0 { x } else { y }
-}
-
-// The truth table's answer for two constants.
-pub fn op_bit(op: u32, x: BddPointer, y: BddPointer) -> BddPointer
-    requires { (x.0 < 2) × (y.0 < 2) }
-    ensures { result.0 ≡ num (op_of op (truth x.0) (truth y.0)) }
-{
-    BddPointer((op >> (2 * x.0 + y.0)) % 2)
-}
-
-// The answer at once, where the left constant decides alone.
-fn left_decides(op: u32, x: BddPointer) -> Found
-    requires { x.0 < 2 }
-    ensures { Decides (λ v. op_of op (truth x.0) v) result }
-{
-    let r = op_bit(op, x, BddPointer(0));
-    if r.0 == op_bit(op, x, BddPointer(1)).0 {
-        return Found::At(r);
-    }
-    Found::Nowhere
-}
-
-// The answer at once, where the right constant decides alone.
-fn right_decides(op: u32, y: BddPointer) -> Found
-    requires { y.0 < 2 }
-    ensures { Decides (λ v. op_of op v (truth y.0)) result }
-{
-    let r = op_bit(op, BddPointer(0), y);
-    if r.0 == op_bit(op, BddPointer(1), y).0 {
-        return Found::At(r);
-    }
-    Found::Nowhere
+    if no.0 == yes.0 { Some(no) } else { None }
 }
 
 // How many entries stand at one place of the memory.
@@ -122,20 +169,17 @@ pub fn slot(sets: usize, x: BddPointer, y: BddPointer) -> usize
 }
 
 // What the memory holds of a pair: an entry is the left node and the result.
-pub fn recall(memo: &[u32], x: BddPointer, y: BddPointer) -> Found
+pub fn recall(memo: &[u32], x: BddPointer, y: BddPointer) -> Option<BddPointer>
     requires { (ways ≤ length memo.now) × (x.0 < max_nodes) × (y.0 < max_nodes) }
     ensures { Recalls memo.now x.0 y.0 result }
 {
     let from = WAYS * slot(memo.len() / WAYS, x, y);
-    let mut i: usize = 0;
-    while i < WAYS {
-        let word = memo[from + i];
+    for word in &memo[from..from + WAYS] {
         if word / RESULTS == x.0 + 1 {
-            return Found::At(BddPointer(word % RESULTS));
+            return Some(BddPointer(word % RESULTS));
         }
-        i += 1;
     }
-    Found::Nowhere
+    None
 }
 
 // Stores an entry before the others of its place; the oldest is lost.
@@ -144,38 +188,30 @@ pub fn remember(memo: &mut [u32], x: BddPointer, y: BddPointer, r: BddPointer)
     ensures { Stores memo.old memo.new x.0 y.0 r.0 }
 {
     let from = WAYS * slot(memo.len() / WAYS, x, y);
-    memo[from + 3] = memo[from + 2];
-    memo[from + 2] = memo[from + 1];
-    memo[from + 1] = memo[from];
+    memo.copy_within(from..from + WAYS - 1, from + 1);
     memo[from] = (x.0 + 1) * RESULTS + r.0;
 }
 
 // The answer of a pair with a constant that decides it.
-fn decided(op: u32, x: BddPointer, y: BddPointer) -> Found
+fn decided(op: u32, x: BddPointer, y: BddPointer) -> Option<BddPointer>
     ensures { Deciding op x.0 y.0 result }
 {
-    if x.0 < 2 {
-        if y.0 < 2 {
-            return Found::At(op_bit(op, x, y));
-        }
-        return left_decides(op, x);
+    let no = BddPointer(0);
+    let yes = BddPointer(1);
+    match (x.0 < 2, y.0 < 2) {
+        (true, true) => Some(op_bit(op, x, y)),
+        (true, false) => agreed(op_bit(op, x, no), op_bit(op, x, yes)),
+        (false, true) => agreed(op_bit(op, no, y), op_bit(op, yes, y)),
+        (false, false) => None,
     }
-    if y.0 < 2 {
-        return right_decides(op, y);
-    }
-    Found::Nowhere
 }
 
 // What is known of a pair before it is split.
-fn known(op: u32, memo: &[u32], x: BddPointer, y: BddPointer) -> Found
+fn known(op: u32, memo: &[u32], x: BddPointer, y: BddPointer) -> Option<BddPointer>
     requires { (ways ≤ length memo.now) × (x.0 < max_nodes) × (y.0 < max_nodes) }
     ensures { Knowing op memo.now x.0 y.0 result }
 {
-    let at_once = decided(op, x, y);
-    if let Found::At(r) = at_once {
-        return Found::At(r);
-    }
-    recall(memo, x, y)
+    decided(op, x, y).or_else(|| recall(memo, x, y))
 }
 
 // Where both nodes of a pair go when a mark is set.
@@ -193,7 +229,9 @@ fn cut_at(a: &[u32], b: &[u32], pair: Pair) -> Cut
     requires { Placed a.now pair.left.0 × Placed b.now pair.right.0 }
     ensures { Cuts a.now b.now pair result }
 {
-    let level = lesser(table::var_of(a, pair.left), table::var_of(b, pair.right));
+    let left = table::var_of(a, pair.left);
+    let right = table::var_of(b, pair.right);
+    let level = BddVariable(left.0.min(right.0));
     let low = step_both(a, b, pair, level, false);
     let high = step_both(a, b, pair, level, true);
     Cut {
@@ -211,44 +249,65 @@ pub fn split(a: &[u32], b: &[u32], memo: &[u32], job: Job, pair: Pair) -> Step
 {
     let left = step_to(a, pair.left, job.left.variable, job.left.value);
     let right = step_to(b, pair.right, job.right.variable, job.right.value);
-    let found = known(job.op, memo, left, right);
-    if let Found::At(r) = found {
-        return Step::Known(r);
-    }
-    Step::Fork(cut_at(a, b, Pair { left, right }))
-}
-
-pub fn known_of(step: Step) -> BddPointer
-    ensures { result ≡ known_in step }
-{
-    match step {
-        Step::Known(r) => r,
-        Step::Fork(cut) => cut.pair.left,
+    match known(job.op, memo, left, right) {
+        Some(r) => Step::Known(r),
+        None => Step::Fork(cut_at(a, b, Pair { left, right })),
     }
 }
 
-// The node over both sides' answers, kept in the memory.
-fn settle(
-    out: &mut [u32],
-    memo: &mut [u32],
+// The descent of two tables into the output, where a number of nodes stands.
+#[derive(Drop)]
+struct Descent<'t, 'o, 'm> {
+    left: &'t [u32],
+    right: &'t [u32],
     job: Job,
-    count: u32,
-    cut: Cut,
-    low: BddPointer,
-    high: BddPointer,
-) -> Noted
-    requires { Settling out.old memo.old job count cut low.0 high.0 }
-    ensures { Settles out.old out.new memo.old memo.new job count cut low.0 high.0 result }
-{
-    let made = pool::make_node(out, job.n, job.room, count, cut.level, low, high);
-    let Noted::Node(r, grown) = made else {
-        return Noted::Full;
-    };
-    remember(memo, cut.pair.left, cut.pair.right, r);
-    Noted::Node(r, grown)
+    out: &'o mut [u32],
+    made: u32,
+    memo: &'m mut [u32],
+    ghost ready: { Ready left.now right.now out.now memo.now job made } by { Prim.hlevel (props, tree_set) },
 }
 
-// The node of a pair: both tables are descended together, low pair first.
+impl Descent<'_, '_, '_> {
+    fn split(&self, pair: Pair) -> Step
+        requires { Splitting self.now.left.now self.now.right.now self.now.memo.now self.now.job pair.left.0 pair.right.0 }
+        ensures { Splits self.now.left.now self.now.right.now self.now.memo.now self.now.job pair.left.0 pair.right.0 result }
+    {
+        split(self.left, self.right, self.memo, self.job, pair)
+    }
+
+    // The node of a pair: low pair first. None where there is no room for it.
+    fn node(&mut self, level: BddVariable, pair: Pair) -> Option<BddPointer>
+        requires { Standing self.old.left.now self.old.right.now self.old.job level.0 pair.left.0 pair.right.0 }
+        ensures same_out { self.new.out.ghost_name ≡ self.old.out.ghost_name }
+        ensures same_memo { self.new.memo.ghost_name ≡ self.old.memo.ghost_name }
+        ensures long { (length self.new.out.now ≡ length self.old.out.now) × (length self.new.memo.now ≡ length self.old.memo.now) }
+        ensures input { (self.new.left.now ≡ self.old.left.now) × (self.new.right.now ≡ self.old.right.now) × (self.new.job ≡ self.old.job) }
+        ensures walks { Walks self.old.left.now self.old.right.now self.old.out.now self.new.out.now self.old.job level.0 self.old.made self.new.made pair.left.0 pair.right.0 result }
+    {
+        match self.split(pair) {
+            Step::Known(r) => Some(r),
+            Step::Fork(cut) => {
+                let next = BddVariable(cut.level.0 + 1);
+                let low = self.node(next, cut.low)?;
+                let high = self.node(next, cut.high)?;
+                let (r, made) = pool::make_node(
+                    self.out,
+                    self.job.n,
+                    self.job.room,
+                    self.made,
+                    cut.level,
+                    low,
+                    high,
+                )?;
+                self.made = made;
+                remember(self.memo, cut.pair.left, cut.pair.right, r);
+                Some(r)
+            }
+        }
+    }
+}
+
+// The node of a pair, and how many nodes stand in the output then: both tables are descended together.
 pub fn join(
     a: &[u32],
     b: &[u32],
@@ -258,40 +317,36 @@ pub fn join(
     level: BddVariable,
     count: u32,
     pair: Pair,
-) -> Noted
+) -> Option<(BddPointer, u32)>
     requires { Joining a.now b.now out.old memo.old job level.0 count pair.left.0 pair.right.0 }
     ensures { Joins a.now b.now out.old out.new memo.new job level.0 count pair.left.0 pair.right.0 result }
 {
-    let step = split(a, b, &*memo, job, pair);
-    let Step::Fork(cut) = step else {
-        return Noted::Node(known_of(step), count);
+    let mut descent = Descent {
+        left: a,
+        right: b,
+        job,
+        out,
+        made: count,
+        memo,
     };
-    let next = BddVariable(cut.level.0 + 1);
-    let low = join(a, b, out, memo, job, next, count, cut.low);
-    let Noted::Node(p, count1) = low else {
-        return Noted::Full;
-    };
-    let high = join(a, b, out, memo, job, next, count1, cut.high);
-    let Noted::Node(q, count2) = high else {
-        return Noted::Full;
-    };
-    settle(out, memo, job, count2, cut, p, q)
+    let joined = descent.node(level, pair);
+    let Descent { made, .. } = descent;
+    Some((joined?, made))
 }
 
-// False is one node; any other table ends at its root.
-fn cut_count(root: BddPointer, count: u32) -> usize
-    ensures { result ≡ cut_count root.0 count }
-{
-    if root.0 == 0 { 1 } else { count as usize }
-}
-
-// The whole join: the canonical table in the output, or no room for it.
-pub fn join_tables(a: &[u32], b: &[u32], out: &mut [u32], memo: &mut [u32], job: Job) -> Tabled
+// The whole join: the count of the canonical table in the output, or the place of NODES.
+pub fn join_tables(
+    a: &[u32],
+    b: &[u32],
+    out: &mut [u32],
+    memo: &mut [u32],
+    job: Job,
+) -> Result<usize, u64>
     requires { Given a.now b.now out.old memo.old job }
     ensures { Leaves (ltb job.room (length (canon job.n (joined_by a.now b.now job)))) 0 (canon job.n (joined_by a.now b.now job)) out.new result }
 {
     making::put_constants(out, job.n);
-    refusal::zero_u32_from(memo, 0);
+    memo.fill(0);
     let left = BddPointer(job.left.count - 1);
     let right = BddPointer(job.right.count - 1);
     let joined = join(
@@ -304,8 +359,5 @@ pub fn join_tables(a: &[u32], b: &[u32], out: &mut [u32], memo: &mut [u32], job:
         2,
         Pair { left, right },
     );
-    let Noted::Node(root, count) = joined else {
-        return Tabled::Over(0);
-    };
-    Tabled::Count(cut_count(root, count))
+    pool::whole_table(joined)
 }

@@ -1,18 +1,11 @@
 -- What an entry that lists clauses answers, and what becomes of its buffers.
-use Rattle.std.specs.Prelude.{◌≡◌, true, List, [], ◌∷◌, ℕ, ◌*◌, ◌/◌, ◌≤◌, ltb, length, take}
+use Rattle.std.specs.Prelude.{◌≡◌, true, List, [], ◌∷◌, ℕ, ◌*◌, ◌/◌, ◌≤◌, ltb, length, take, Result, Ok, Err}
 use Rattle.theory.specs.Clause.{Clause}
 use Rattle.refusal.specs.Number.{CLAUSES}
 use Rattle.refusal.specs.Buffers.{padded, zeroing}
-use Rattle.refusal.specs.Verdict.{Reply, gives, refusal_reply, Finding, finding, Verdict, refused, answered, judged}
-use Rattle.listing.specs.declared.Listed.{Listed}
-use Rattle.listing.specs.declared.Listed.TheVariants as listed
-use Rattle.listing.specs.declared.Written.{Written}
-use Rattle.listing.specs.declared.Written.TheVariants.{Count, Over}
-
--- the reply of a list is its number of clauses
-unfoldable pub listed_reply : Listed → Reply
-listed_reply (listed.Clauses k) = gives (k ∷ [])
-listed_reply (listed.Refused r) = refusal_reply r
+use Rattle.refusal.specs.Verdict.{Finding, finding, Verdict, refused, answered, judged}
+use Rattle.refusal.specs.Number.{number_of}
+use Rattle.refusal.specs.declared.Refusal.{Refusal}
 
 -- two words per clause: fixed marks, then values
 abbrev pub clause_stride : ℕ
@@ -52,21 +45,21 @@ pub record Overflows (overs : List Finding) (number place : ℕ) : Type 0 where
   pub zeroes : zeroing number ≡ true
 
 -- what a core leaves in the clause output
-abbrev pub Leaves : List Finding → List Clause → List ℕ → Written → Type 0
-Leaves overs xs out (Count k) = Stands overs xs out k
-Leaves overs xs out (Over r) = Overflows overs r.number r.place
+abbrev pub Leaves : List Finding → List Clause → List ℕ → Result ℕ Refusal → Type 0
+Leaves overs xs out (Ok k) = Stands overs xs out k
+Leaves overs xs out (Err r) = Overflows overs (number_of r.kind) r.place
 
 -- what settling asks: the clauses lie within the output
-abbrev pub Settling : Written → List ℕ → Type 0
-Settling (Count k) out = clause_stride * k ≤ length out
-Settling (Over r) out = Unit {0}
+abbrev pub Settling : Result ℕ Refusal → List ℕ → Type 0
+Settling (Ok k) out = clause_stride * k ≤ length out
+Settling (Err r) out = Unit {0}
 
 -- what settling leaves
-pub record Settled (answer : Listed) (words out out' work work' : List ℕ) (r : Listed) : Type 0 where
+pub record Settled (answer : Result ℕ Refusal) (words out out' work work' : List ℕ) (r : Result ℕ Refusal) : Type 0 where
   pub is : r ≡ answer
   pub output : out' ≡ padded words (length out)
   pub memory : work' ≡ padded [] (length work)
 
-abbrev pub Settles : Written → List ℕ → List ℕ → List ℕ → List ℕ → Listed → Type 0
-Settles (Count k) out out' work work' r = Settled (listed.Clauses k) (take (clause_stride * k) out) out out' work work' r
-Settles (Over s) out out' work work' r = Settled (listed.Refused s) [] out out' work work' r
+abbrev pub Settles : Result ℕ Refusal → List ℕ → List ℕ → List ℕ → List ℕ → Result ℕ Refusal → Type 0
+Settles (Ok k) out out' work work' r = Settled (Ok k) (take (clause_stride * k) out) out out' work work' r
+Settles (Err s) out out' work work' r = Settled (Err s) [] out out' work work' r

@@ -20,7 +20,7 @@ use Rattle.theory.proofs.Small.{meaning-deep}
 use Rattle.refusal.specs.Number.{CLAUSES, order}
 use Rattle.refusal.specs.Buffers.{zeroing}
 use Rattle.refusal.specs.Verdict.{Verdict, refused, answered, first_of, tried, judged, replied}
-use Rattle.refusal.proofs.Single.{Single, single}
+use Rattle.refusal.proofs.Single.{Single, single, number-one}
 use Rattle.refusal.proofs.Judged.{Clean, judged-either, judged-answer, refused_quiet}
 use Rattle.table.specs.declared.Inspection.TheVariants.{Sound}
 use Rattle.table.specs.Inspection.{inspection_reply, root_of}
@@ -33,9 +33,9 @@ use Rattle.paths.proofs.PathLaws.{path_count_lem, count_small, paths_formed}
 use Rattle.paths.proofs.Once.{dnf-once, cnf-once}
 use Rattle.paths.proofs.Sums.{dnf_sum, both_sum}
 use Rattle.paths.proofs.Agrees.{list-means}
-use Rattle.listing.specs.Listed.{listed_reply, capacity, list_answer, lists}
+use Rattle.listing.specs.Listed.{capacity, list_answer, lists}
 use Rattle.listing.specs.Listing.{too_many_paths}
-use Rattle.listing.proofs.ListedLaws.{listed-one}
+use Rattle.refusal.specs.Told.{number, reply_of}
 use Rattle.listing.proofs.ClauseLaws.{answered-clauses}
 use Rattle.lists.specs.Lists.{lists_paths, lists_dnf, lists_cnf}
 
@@ -152,8 +152,8 @@ module _ (n count : ℕ) (words : List ℕ) where
         ap (λ xs. misses n xs case) (list-clauses false n count words out work k result e) ∙ cnf-once n (nodes count words) (list-ordered false n count words out work k result e) case
 
   -- each promise leaves one answer
-  pub to_dnf-single : (out work : List ℕ) → Single listed_reply (lists_dnf n count words out work)
-  to_dnf-single out work = single listed_reply listed-one (lists_dnf n count words out work)
+  pub to_dnf-single : (out work : List ℕ) → Single (reply_of number) (lists_dnf n count words out work)
+  to_dnf-single out work = single (reply_of number) number-one (lists_dnf n count words out work)
 
-  pub to_cnf-single : (out work : List ℕ) → Single listed_reply (lists_cnf n count words out work)
-  to_cnf-single out work = single listed_reply listed-one (lists_cnf n count words out work)
+  pub to_cnf-single : (out work : List ℕ) → Single (reply_of number) (lists_cnf n count words out work)
+  to_cnf-single out work = single (reply_of number) number-one (lists_cnf n count words out work)

@@ -1,18 +1,13 @@
 -- The constants stored at the front, and the buffers settled.
-use mathlib.Core.Path.{◌≡◌, refl, sym, ap, subst, ◌∙◌}
+use mathlib.Core.Path.{◌≡◌, ap, ◌∙◌}
 use mathlib.Core.List.{List, [], ◌∷◌, ◌++◌}
 use Prim.Native.Nat.{ℕ, ◌*◌, ◌≤◌}
 use native.Mathlib.Omega.{arith}
-use lib.ListN.{length, get_or, take, length-set}
+use lib.ListN.{length, get_or, length-set}
 use Rattle.theory.specs.Table.{node, constants}
 use Rattle.theory.specs.Words.{stride, nodes, with_node}
 use Rattle.theory.proofs.Words.{nodes_push, node_beyond}
-use Rattle.refusal.specs.Number.{NODES}
-use Rattle.refusal.specs.Buffers.{padded}
-use Rattle.making.specs.declared.Made.TheVariants as made
-use Rattle.making.specs.declared.Tabled.{Tabled}
-use Rattle.making.specs.declared.Tabled.TheVariants.{Count, Over}
-use Rattle.making.specs.Made.{Beyond, Settling, Settles}
+use Rattle.making.specs.Made.{Beyond}
 
 -- the constants, one after the other
 module _ (l l₁ l₂ : List ℕ) (n : ℕ) (h : stride * 2 ≤ length l) (e₁ : l₁ ≡ with_node l 0 n 0 0) (e₂ : l₂ ≡ with_node l₁ 1 n 1 1) where
@@ -31,16 +26,3 @@ module _ (l l₁ l₂ : List ℕ) (n : ℕ) (h : stride * 2 ≤ length l) (e₁ 
 
   pub constants_beyond : Beyond 2 l l₂
   constants_beyond i g = ap (λ w. get_or w i 0) e₂ ∙ node_beyond 1 l₁ n 1 1 i (omega arith) ∙ ap (λ w. get_or w i 0) e₁ ∙ node_beyond 0 l n 0 0 i (omega arith)
-
--- what settling was asked, where the core left a table
-pub table-within : (t : Tabled) (c : ℕ) (out : List ℕ) → t ≡ Count c → Settling t out → stride * c ≤ length out
-table-within t c out e h = subst (λ x. Settling x out) e h
-
-pub settled-count : (t : Tabled) (c : ℕ) (out out' work work' : List ℕ) → t ≡ Count c → out' ≡ padded (take (stride * c) out) (length out) → work' ≡ padded [] (length work)
-    → Settles t out out' work work' (made.Table c)
-settled-count t c out out' work work' e a b = subst (λ x. Settles x out out' work work' (made.Table c)) (sym e) (record { answer = refl; output = a; memory = b })
-
-pub settled-over : (t : Tabled) (p : ℕ) (out out' work work' : List ℕ) → t ≡ Over p → out' ≡ padded [] (length out) → work' ≡ padded [] (length work)
-    → Settles t out out' work work' (made.Refused (record { number = NODES; place = p }))
-settled-over t p out out' work work' e a b =
-    subst (λ x. Settles x out out' work work' (made.Refused (record { number = NODES; place = p }))) (sym e) (record { answer = refl; output = a; memory = b })

@@ -1,5 +1,5 @@
-// What the entries that make a table share: their answer, their room and work, the constants, and the settling of their buffers. Inner.
-#![tactic(auto)]
+// What the entries that make a table share: their room and work, the constants, and the settling of their buffers. Inner.
+#![tactic(auto, using(refusal::proofs::Zeroing::zeroed), unfolding(refusal::specs::Buffers::padded, crate::specs::Room::over_room, crate::specs::Room::short_output, crate::specs::Room::short_work))]
 
 ghost use Rattle.std.specs.Prelude.{◌≡◌, ◌+◌, ◌*◌, ◌≤◌, length};
 ghost use Rattle.theory.specs.Table.{constants};
@@ -8,31 +8,14 @@ ghost use Rattle.refusal.specs.Limits.{max_nodes, plain_work};
 ghost use Rattle.making.specs.Room.{over_room, short_output, short_work};
 ghost use Rattle.making.specs.Made.{Beyond, Settling, Settles};
 
-use refusal::{MAX_NODES, MIN_ROOM, NODES, Refusal};
+use refusal::{MAX_NODES, MIN_ROOM, Refusal, RefusalKind};
 use table::{BddPointer, NODE_WORDS};
 use valuation::BddVariable;
-
-// The answer: the result's node count.
-#[derive(Clone, Copy)]
-pub enum Made {
-    Table(usize),
-    Refused(Refusal),
-}
-
-// What a core leaves: a table of that many nodes in the output, or the place of NODES.
-#[derive(Clone, Copy)]
-pub enum Tabled {
-    Count(usize),
-    Over(u64),
-}
 
 pub fn over_room(room: usize) -> bool
     ensures { result ≡ over_room room }
 {
-    if room < MIN_ROOM {
-        return true;
-    }
-    room > MAX_NODES
+    room < MIN_ROOM || room > MAX_NODES
 }
 
 pub fn short_output(room: usize, out: &[u32]) -> bool
@@ -66,21 +49,25 @@ pub fn put_constants(out: &mut [u32], n: u16)
     table::put_node(out, 1, BddVariable(n), BddPointer(1), BddPointer(1));
 }
 
-// Zeros behind the result, and in the work memory; all zeros where there was no room.
-pub fn settle(tabled: Tabled, out: &mut [u32], work: &mut [u32]) -> Made
+// Zeros behind the table that a core left, and in the work memory; all zeros where the core gave the place of NODES.
+pub fn settle(
+    tabled: Result<usize, u64>,
+    out: &mut [u32],
+    work: &mut [u32],
+) -> Result<usize, Refusal>
     requires { Settling tabled out.old }
     ensures { Settles tabled out.old out.new work.old work.new result }
 {
-    refusal::zero_u32_from(work, 0);
+    work.fill(0);
     match tabled {
-        Tabled::Count(count) => {
-            refusal::zero_u32_from(out, NODE_WORDS * count);
-            Made::Table(count)
+        Ok(count) => {
+            out[NODE_WORDS * count..].fill(0);
+            Ok(count)
         }
-        Tabled::Over(place) => {
-            refusal::zero_u32_from(out, 0);
-            Made::Refused(Refusal {
-                number: NODES,
+        Err(place) => {
+            out.fill(0);
+            Err(Refusal {
+                kind: RefusalKind::Nodes,
                 place,
             })
         }

@@ -1,13 +1,15 @@
 -- What the program prints, as a function of the bytes that it reads.
-use Rattle.std.specs.Prelude.{Bool, cond, not, ◌&&◌, ◌||◌, List, [], ℕ, ◌*◌, eqb, ltb, length, get_or, replicate}
+use Rattle.std.specs.Prelude.{◌≡◌, Bool, cond, not, ◌&&◌, ◌||◌, List, [], ℕ, ◌*◌, eqb, ltb, length, get_or, replicate, Result, Ok, Err}
 use Rattle.theory.specs.Words.{stride}
-use Rattle.refusal.specs.Number.{SHEET}
+use Rattle.refusal.specs.Number.{SHEET, number_of}
+use Rattle.refusal.specs.declared.Refusal.{Refusal}
 use Rattle.refusal.specs.Limits.{plain_work}
 use Rattle.refusal.specs.Buffers.{padded}
 use Rattle.refusal.specs.Verdict.{Verdict, refused, answered}
 use Rattle.builders.specs.Builders.{makes_dnf, makes_cnf}
 use Rattle.lists.specs.Lists.{lists_dnf, lists_cnf}
 use Rattle.text.specs.Text.{whole_text, refused_text}
+use Rattle.text.specs.Writing.{Prints}
 use Rattle.sheet.specs.Sheet.{dnf_kind, cnf_kind, table_kind, header_bytes, decode_header, reads_sheet}
 
 -- the longest input
@@ -65,3 +67,8 @@ unfoldable pub mill_text : List ℕ → List ℕ
 mill_text bytes =
     cond (not_taken bytes) (refused_text SHEET 0)
     (or_refused (reads_sheet bytes (blank clause_buffer) (blank node_buffer)) (λ vs outs. list_text (get_or vs 0 0) (get_or vs 1 0) (get_or vs 2 0) (padded (get_or outs 0 []) clause_buffer)))
+
+-- a step's text stands in the buffer; or it is a refusal's, which is still to be printed, and the buffer is as it was
+abbrev pub Tells : List ℕ → List ℕ → List ℕ → Result ℕ Refusal → Type 0
+Tells text out out' (Ok r) = Prints text out out' r
+Tells text out out' (Err r) = (text ≡ refused_text (number_of r.kind) r.place) × (out' ≡ out)

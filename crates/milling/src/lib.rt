@@ -1,49 +1,57 @@
 // The program as a function: a sheet's bytes in, the whole text out. Inner.
 #![tactic(auto)]
 
-ghost use Rattle.std.specs.Prelude.{◌≡◌, true, false, ◌*◌, ◌≤◌, length};
+ghost use Rattle.std.specs.Prelude.{◌≡◌, ◌*◌, ◌≤◌, length};
 ghost use Rattle.refusal.specs.Limits.{max_marks, max_clauses};
 ghost use Rattle.refusal.specs.Buffers.{output_after};
+ghost use Rattle.refusal.specs.Told.{number, reply_of};
 ghost use Rattle.refusal.specs.Verdict.{replied};
-ghost use Rattle.making.specs.Made.{made_reply};
 ghost use Rattle.text.specs.Text.{text_room};
 ghost use Rattle.text.specs.Writing.{Prints};
+ghost use Rattle.entries.specs.Entries.{says};
 ghost use Rattle.sheet.specs.Sheet.{clause_kind};
-ghost use Rattle.milling.specs.Mill.{node_buffer, blank, not_taken, builds_kind, cnf_text, table_text, list_text, mill_text};
+ghost use Rattle.milling.specs.Mill.{node_buffer, blank, not_taken, builds_kind, cnf_text, table_text, list_text, mill_text, Tells};
 
-use listing::Listed;
-use making::Made;
-use refusal::{Refusal, SHEET};
-use sheet::{HEADER_BYTES, SheetRead};
+use entries::Form;
+use listing::CLAUSE_WORDS;
+use refusal::{MAX_CLAUSES, Refusal, RefusalKind, refuse_if};
+use sheet::{HEADER_BYTES, Kind};
+use table::NODE_WORDS;
 
 pub const INPUT_LIMIT: usize = 65536;
 
 const NODE_ROOM: usize = 1024;
 
+// The buffers are locals of a fixed length, since nothing here has a heap.
+const NODE_BUFFER: usize = NODE_WORDS * NODE_ROOM;
+
+const WORK_BUFFER: usize = 12 * NODE_ROOM + 192;
+
+const CLAUSE_BUFFER: usize = CLAUSE_WORDS * MAX_CLAUSES;
+
 // Over 65,536 bytes, or a table.
+#[tactic(auto, unfolding(crate::specs::Mill::not_taken))]
 fn is_not_taken(bytes: &[u8]) -> bool
     ensures { result ≡ not_taken bytes.now }
 {
-    if bytes.len() > INPUT_LIMIT {
-        return true;
-    }
-    if bytes.len() < HEADER_BYTES {
-        return false;
-    }
-    let header = sheet::read_header(bytes);
-    header.kind == 3
+    bytes.len() > INPUT_LIMIT || bytes.len() >= HEADER_BYTES && sheet::read_header(bytes).kind == 3
 }
 
-fn build(dnf: bool, n: u16, count: usize, clauses: &[u64], nodes: &mut [u32]) -> Made
+fn build(
+    form: Form,
+    n: u16,
+    count: usize,
+    clauses: &[u64],
+    nodes: &mut [u32],
+) -> Result<usize, Refusal>
     requires { nodes.old ≡ blank node_buffer }
-    ensures result_value { made_reply result ≡ replied (builds_kind (clause_kind dnf) n count clauses.now) }
-    ensures nodes_after { nodes.new ≡ output_after 0 (builds_kind (clause_kind dnf) n count clauses.now) nodes.old }
+    ensures result_value { reply_of number result ≡ replied (builds_kind (clause_kind (says form)) n count clauses.now) }
+    ensures nodes_after { nodes.new ≡ output_after 0 (builds_kind (clause_kind (says form)) n count clauses.now) nodes.old }
 {
-    let mut work = [0u32; 12480];
-    if dnf {
-        builders::mk_dnf(n, count, clauses, NODE_ROOM, nodes, &mut work)
-    } else {
-        builders::mk_cnf(n, count, clauses, NODE_ROOM, nodes, &mut work)
+    let mut work = [0u32; WORK_BUFFER];
+    match form {
+        Form::Dnf => builders::mk_dnf(n, count, clauses, NODE_ROOM, nodes, &mut work),
+        Form::Cnf => builders::mk_cnf(n, count, clauses, NODE_ROOM, nodes, &mut work),
     }
 }
 
@@ -55,40 +63,58 @@ fn mill_cnf(
     dnf_count: usize,
     dnf: &[u64],
     out: &mut [u8],
-) -> usize
+) -> Result<usize, Refusal>
     requires { (n ≤ max_marks) × (dnf_count ≤ max_clauses) × (2 * dnf_count ≤ length dnf.now) × (text_room ≤ length out.old) }
-    ensures { Prints (cnf_text n count table.now dnf_count dnf.now) out.old out.new result }
+    ensures { Tells (cnf_text n count table.now dnf_count dnf.now) out.old out.new result }
 {
-    let mut cnf = [0u64; 2048];
-    let mut work = [0u32; 12480];
-    match lists::to_cnf(n, count, table, &mut cnf, &mut work) {
-        Listed::Clauses(listed) => text::put_whole(out, n, count, dnf_count, dnf, listed, &cnf),
-        Listed::Refused(refusal) => text::put_refusal(out, refusal),
-    }
+    let mut cnf = [0u64; CLAUSE_BUFFER];
+    let mut work = [0u32; WORK_BUFFER];
+    let listed = lists::to_cnf(n, count, table, &mut cnf, &mut work)?;
+    Ok(text::put_whole(out, n, count, dnf_count, dnf, listed, &cnf))
 }
 
 // The DNF, and on.
-fn mill_table(n: u16, count: usize, table: &[u32], out: &mut [u8]) -> usize
+fn mill_table(n: u16, count: usize, table: &[u32], out: &mut [u8]) -> Result<usize, Refusal>
     requires { (n ≤ max_marks) × (text_room ≤ length out.old) }
-    ensures { Prints (table_text n count table.now) out.old out.new result }
+    ensures { Tells (table_text n count table.now) out.old out.new result }
 {
-    let mut dnf = [0u64; 2048];
-    let mut work = [0u32; 12480];
-    match lists::to_dnf(n, count, table, &mut dnf, &mut work) {
-        Listed::Clauses(listed) => mill_cnf(n, count, table, listed, &dnf, out),
-        Listed::Refused(refusal) => text::put_refusal(out, refusal),
-    }
+    let mut dnf = [0u64; CLAUSE_BUFFER];
+    let mut work = [0u32; WORK_BUFFER];
+    let listed = lists::to_dnf(n, count, table, &mut dnf, &mut work)?;
+    mill_cnf(n, count, table, listed, &dnf, out)
 }
 
 // The table of a list, and on.
-fn mill_list(dnf: bool, n: u16, count: usize, clauses: &[u64], out: &mut [u8]) -> usize
+fn mill_list(
+    form: Form,
+    n: u16,
+    count: usize,
+    clauses: &[u64],
+    out: &mut [u8],
+) -> Result<usize, Refusal>
     requires { (n ≤ max_marks) × (text_room ≤ length out.old) }
-    ensures { Prints (list_text (clause_kind dnf) n count clauses.now) out.old out.new result }
+    ensures { Tells (list_text (clause_kind (says form)) n count clauses.now) out.old out.new result }
 {
-    let mut nodes = [0u32; 3072];
-    match build(dnf, n, count, clauses, &mut nodes) {
-        Made::Table(made) => mill_table(n, made, &nodes, out),
-        Made::Refused(refusal) => text::put_refusal(out, refusal),
+    let mut nodes = [0u32; NODE_BUFFER];
+    let made = build(form, n, count, clauses, &mut nodes)?;
+    mill_table(n, made, &nodes, out)
+}
+
+// The sheet, and on.
+fn mill_sheet(bytes: &[u8], out: &mut [u8]) -> Result<usize, Refusal>
+    requires { text_room ≤ length out.old }
+    ensures { Tells (mill_text bytes.now) out.old out.new result }
+{
+    refuse_if(is_not_taken(bytes), RefusalKind::Sheet, 0)?;
+    let mut clauses = [0u64; CLAUSE_BUFFER];
+    let mut nodes = [0u32; NODE_BUFFER];
+    let section = sheet::read_sheet(bytes, &mut clauses, &mut nodes)?;
+    match section.kind {
+        Kind::Clauses(form) => mill_list(form, section.n, section.count, &clauses, out),
+        Kind::Table => Err(Refusal {
+            kind: RefusalKind::Sheet,
+            place: 0,
+        }),
     }
 }
 
@@ -97,19 +123,8 @@ pub fn mill(bytes: &[u8], out: &mut [u8]) -> usize
     requires { text_room ≤ length out.old }
     ensures { Prints (mill_text bytes.now) out.old out.new result }
 {
-    let no_sheet = Refusal {
-        number: SHEET,
-        place: 0,
-    };
-    if is_not_taken(bytes) {
-        return text::put_refusal(out, no_sheet);
-    }
-    let mut clauses = [0u64; 2048];
-    let mut nodes = [0u32; 3072];
-    match sheet::read_sheet(bytes, &mut clauses, &mut nodes) {
-        SheetRead::Dnf(section) => mill_list(true, section.n, section.count, &clauses, out),
-        SheetRead::Cnf(section) => mill_list(false, section.n, section.count, &clauses, out),
-        SheetRead::Table(_) => text::put_refusal(out, no_sheet),
-        SheetRead::Refused(refusal) => text::put_refusal(out, refusal),
+    match mill_sheet(bytes, out) {
+        Ok(end) => end,
+        Err(refusal) => text::put_refusal(out, refusal),
     }
 }

@@ -1,6 +1,6 @@
 -- An operator's three equations, from its admission and the join.
 use mathlib.Core.Path.{◌≡◌, refl, sym, ap, ap₂, subst, ◌∙◌}
-use mathlib.Core.Bool.{Bool, true, false}
+use mathlib.Core.Bool.{true, false}
 use mathlib.Core.List.{List, []}
 use Prim.Native.Nat.{ℕ, ◌-◌, ◌<◌, ◌≤◌, max}
 use native.Mathlib.Omega.{arith}
@@ -20,22 +20,23 @@ use Rattle.valuation.specs.declared.BddVariable.{BddVariable}
 use Rattle.table.specs.declared.BddPointer.{BddPointer}
 use Rattle.table.specs.declared.Inspection.{Inspection}
 use Rattle.table.specs.declared.Inspection.TheVariants.{Sound, Refused}
-use Rattle.table.specs.Inspection.{inspection_reply, refusal_in, root_of, SoundTable}
+use Rattle.table.specs.Inspection.{inspection_reply, root_of, SoundTable}
 use Rattle.table.proofs.AdmissionLaws.{admission_clean}
-use Rattle.making.specs.declared.Made.{Made}
-use Rattle.making.specs.declared.Made.TheVariants as made
-use Rattle.making.specs.declared.Tabled.{Tabled}
+use Rattle.std.specs.Prelude.{Result, Err}
 use Rattle.making.specs.Made.{operates, Leaves, Settles}
 use Rattle.making.proofs.MakesLaws.{Outcome, makes-settled, clean_outcome}
 use Rattle.admission.specs.Admission.{mark_findings, pair_findings}
 use Rattle.admission.proofs.Admitted.{refused_outcome, Roomed, mark_quiet, mark_admitted, pair_quiet, pair_admitted}
 use Rattle.join.specs.declared.Job.{Job}
-use Rattle.join.specs.Task.{op_of}
+use Rattle.join.specs.declared.Operation.{Operation}
+use Rattle.join.specs.Jobs.{pair_job, mark_job}
+use Rattle.join.specs.Task.{truth_table, answer_of, op_of}
+use Rattle.join.proofs.TruthLaws.{table_answers}
 use Rattle.join.specs.Joining.{joined_by, Given}
-use Rattle.operators.specs.Operators.{pair_job, mark_job}
+use Rattle.operators.specs.Operators.{makes_pair, makes_mark}
 
 -- ---- the join, settled
-pub joined_outcome : (n room : ℕ) (g : Tree) (out₁ out out' work₁ work work' : List ℕ) → length out₁ ≡ length out → length work₁ ≡ length work → (tabled : Tabled) (r : Made)
+pub joined_outcome : (n room : ℕ) (g : Tree) (out₁ out out' work₁ work work' : List ℕ) → length out₁ ≡ length out → length work₁ ≡ length work → (tabled : Result ℕ ℕ) (r : Result ℕ Refusal)
     → Leaves (ltb room (length (canon n g))) 0 (canon n g) out₁ tabled → Settles tabled out₁ out' work₁ work' r → Outcome (operates [] n room g) r out out' work work'
 unfolding judged tried order first_of
 joined_outcome n room g out₁ out out' work₁ work work' eo ew tabled r left kept =
@@ -44,9 +45,12 @@ joined_outcome n room g out₁ out out' work₁ work work' eo ew tabled r left k
 -- ---- two tables
 module _ (n lefts : ℕ) (left : List ℕ) (rights : ℕ) (right : List ℕ) (room : ℕ) (out work : List ℕ) (a : Inspection)
     (e : inspection_reply a ≡ replied (judged (pair_findings n lefts left rights right room out work) (root_of rights))) where
-  pub pair-refused : (g : Tree) (r q : Refusal) → a ≡ Refused r → q ≡ refusal_in a → Outcome (operates (pair_findings n lefts left rights right room out work) n room g) (made.Refused q) out out work work
-  pair-refused g r q is-r is-q =
-      refused_outcome (pair_findings n lefts left rights right room out work) (pair_quiet n lefts left rights right room out work) rights a e r q is-r is-q (ltb room (length (canon n g))) 0 (canon n g) out work
+  pub pair-refused : (op : Operation) (q : Refusal) → a ≡ Refused q → Outcome (makes_pair op n lefts left rights right room out work) (Err q) out out work work
+  pair-refused op q is =
+      refused_outcome (pair_findings n lefts left rights right room out work) (pair_quiet n lefts left rights right room out work) rights a e q is (ltb room (length (canon n (g op)))) 0 (canon n (g op)) out work
+    where
+      g : Operation → Tree
+      g op = pointwise (answer_of op) (meaning n (nodes lefts left)) (meaning n (nodes rights right))
 
   module _ (p : BddPointer) (is : a ≡ Sound p) where
     admitted : SoundTable n lefts left (lefts - 1) × SoundTable n rights right (rights - 1) × Roomed (max room (max lefts rights)) room out work
@@ -55,7 +59,7 @@ module _ (n lefts : ℕ) (left : List ℕ) (rights : ℕ) (right : List ℕ) (ro
     pub pair-few : (lefts ≤ max_nodes) × (rights ≤ max_nodes) × (room ≤ max_nodes)
     pair-few = (admitted.0.few, admitted.1.few, admitted.2.rooms.few)
 
-    pub pair-given : (op : ℕ) (job : Job) → job ≡ pair_job n op lefts rights room → Given left right out work job
+    pub pair-given : (op : Operation) (job : Job) → job ≡ pair_job n op lefts rights room → Given left right out work job
     pair-given op job built =
         subst (Given left right out work) (sym built)
         (record {
@@ -65,29 +69,32 @@ module _ (n lefts : ℕ) (left : List ℕ) (rights : ℕ) (right : List ℕ) (ro
           long = admitted.2.wide;
         })
 
-    pub pair_outcome : (op : ℕ) (f : Bool → Bool → Bool) → op_of op ≡ f → (job : Job) → job ≡ pair_job n op lefts rights room → (r : Made) (out' work' : List ℕ)
+    pub pair_outcome : (op : Operation) (job : Job) → job ≡ pair_job n op lefts rights room → (r : Result ℕ Refusal) (out' work' : List ℕ)
         → Outcome (operates [] job.n job.room (joined_by left right job)) r out out' work work'
-        → Outcome (operates (pair_findings n lefts left rights right room out work) n room (pointwise f (meaning n (nodes lefts left)) (meaning n (nodes rights right)))) r out out' work work'
-    pair_outcome op f table job built r out' work' o =
+        → Outcome (makes_pair op n lefts left rights right room out work) r out out' work work'
+    pair_outcome op job built r out' work' o =
         clean_outcome (pair_findings n lefts left rights right room out work)
         (admission_clean (pair_findings n lefts left rights right room out work) rights a e p is).0
         _ _ _ r out out' work work'
         (subst (λ g. Outcome (operates [] n room g) r out out' work work') means
         (subst (λ (j : Job). Outcome (operates [] j.n j.room (joined_by left right j)) r out out' work work') built o))
       where
-        means : joined_by left right (pair_job n op lefts rights room) ≡ pointwise f (meaning n (nodes lefts left)) (meaning n (nodes rights right))
+        means : joined_by left right (pair_job n op lefts rights room) ≡ pointwise (answer_of op) (meaning n (nodes lefts left)) (meaning n (nodes rights right))
         means =
-            ap₂ (pointwise (op_of op))
+            ap₂ (pointwise (op_of (truth_table op)))
             (cofactor-past n n false (meaning n (nodes lefts left)) (meaning-deep n (nodes lefts left)) (omega arith))
             (cofactor-past n n false (meaning n (nodes rights right)) (meaning-deep n (nodes rights right)) (omega arith))
-            ∙ ap (λ h. pointwise h (meaning n (nodes lefts left)) (meaning n (nodes rights right))) table
+            ∙ ap (λ h. pointwise h (meaning n (nodes lefts left)) (meaning n (nodes rights right))) (table_answers op)
 
 -- ---- one table and a mark
 module _ (n count : ℕ) (words : List ℕ) (room : ℕ) (out work : List ℕ) (mark : BddVariable) (a : Inspection)
     (e : inspection_reply a ≡ replied (judged (mark_findings n count words mark.0 room out work) (root_of count))) where
-  pub mark-refused : (g : Tree) (r q : Refusal) → a ≡ Refused r → q ≡ refusal_in a → Outcome (operates (mark_findings n count words mark.0 room out work) n room g) (made.Refused q) out out work work
-  mark-refused g r q is-r is-q =
-      refused_outcome (mark_findings n count words mark.0 room out work) (mark_quiet n count words room out work mark.0) count a e r q is-r is-q (ltb room (length (canon n g))) 0 (canon n g) out work
+  pub mark-refused : (op : Operation) (q : Refusal) → a ≡ Refused q → Outcome (makes_mark op n count words mark.0 room out work) (Err q) out out work work
+  mark-refused op q is =
+      refused_outcome (mark_findings n count words mark.0 room out work) (mark_quiet n count words room out work mark.0) count a e q is (ltb room (length (canon n (g op)))) 0 (canon n (g op)) out work
+    where
+      g : Operation → Tree
+      g op = pointwise (answer_of op) (cofactor mark.0 false (meaning n (nodes count words))) (cofactor mark.0 true (meaning n (nodes count words)))
 
   module _ (p : BddPointer) (is : a ≡ Sound p) where
     admitted_mark : SoundTable n count words p.0 × Roomed (max room count) room out work × (mark.0 < n)
@@ -102,7 +109,7 @@ module _ (n count : ℕ) (words : List ℕ) (room : ℕ) (out work : List ℕ) (
     pub mark-few : (count ≤ max_nodes) × (room ≤ max_nodes)
     mark-few = (table-sound.few, admitted_mark.1.rooms.few)
 
-    pub mark-given : (op : ℕ) (job : Job) → job ≡ mark_job n op count mark room → Given words words out work job
+    pub mark-given : (op : Operation) (job : Job) → job ≡ mark_job n op count mark room → Given words words out work job
     mark-given op job built =
         subst (Given words words out work) (sym built)
         (record {
@@ -112,10 +119,10 @@ module _ (n count : ℕ) (words : List ℕ) (room : ℕ) (out work : List ℕ) (
           long = admitted_mark.1.wide;
         })
 
-    pub mark_outcome : (op : ℕ) (f : Bool → Bool → Bool) → op_of op ≡ f → (job : Job) → job ≡ mark_job n op count mark room → (r : Made) (out' work' : List ℕ)
+    pub mark_outcome : (op : Operation) (job : Job) → job ≡ mark_job n op count mark room → (r : Result ℕ Refusal) (out' work' : List ℕ)
         → Outcome (operates [] job.n job.room (joined_by words words job)) r out out' work work'
-        → Outcome (operates (mark_findings n count words mark.0 room out work) n room (pointwise f (cofactor mark.0 false (meaning n (nodes count words))) (cofactor mark.0 true (meaning n (nodes count words))))) r out out' work work'
-    mark_outcome op f table job built r out' work' o =
+        → Outcome (makes_mark op n count words mark.0 room out work) r out out' work work'
+    mark_outcome op job built r out' work' o =
         clean_outcome (mark_findings n count words mark.0 room out work) clean.0 _ _ _ r out out' work work'
-        (subst (λ h. Outcome (operates [] n room (pointwise h (cofactor mark.0 false (meaning n (nodes count words))) (cofactor mark.0 true (meaning n (nodes count words))))) r out out' work work') table
+        (subst (λ h. Outcome (operates [] n room (pointwise h (cofactor mark.0 false (meaning n (nodes count words))) (cofactor mark.0 true (meaning n (nodes count words))))) r out out' work work') (table_answers op)
         (subst (λ (j : Job). Outcome (operates [] j.n j.room (joined_by words words j)) r out out' work work') built o))

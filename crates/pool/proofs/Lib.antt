@@ -1,1 +1,2 @@
 pub mod PoolLaws
+pub mod WholeLaws

@@ -1,34 +1,23 @@
 -- Laws of finding and making a node.
-use mathlib.Core.Path.{◌≡◌, refl, sym, ap, subst, ◌∙◌}
-use mathlib.Core.Bool.{Bool, true, false, cond, ◌&&◌}
+use mathlib.Core.Path.{◌≡◌, sym, ap, subst, ◌∙◌}
+use mathlib.Core.Bool.{true, false, cond}
 use mathlib.Core.List.{List, [], ◌∷◌, ◌++◌}
 use mathlib.Core.Logic.{◌⊎◌, inl, inr}
 use Prim.Native.Nat.{ℕ, suc, ◌+◌, ◌<◌, ◌≤◌}
 use native.Mathlib.Omega.{arith}
-use lib.Dec.{eqb}
 use lib.ListN.{length, get_or, length-append}
-use borrow.Author.Tests.{ne_eqb}
 use Rattle.theory.specs.Table.{Node, node, Table, at, same, find, grow, mk}
 use Rattle.theory.specs.Words.{nodes, with_node}
 use Rattle.theory.proofs.Step.{inner}
 use Rattle.theory.proofs.Find.{same_refl, find-is, find_none, Fresh, Present, grow-cases, mk-same, mk-other}
 use Rattle.theory.proofs.Words.{length-nodes, at-nodes, nodes_push, node_beyond}
 use Rattle.making.specs.Made.{Beyond}
-use Rattle.pool.specs.declared.Found.{Found}
-use Rattle.pool.specs.declared.Found.TheVariants.{Nowhere}
-use Rattle.pool.specs.declared.Noted.{Noted}
-use Rattle.pool.specs.Pool.{Hit, Miss, Searched, Pushing, Noding, Holds, Answers, pushed}
+use Rattle.std.specs.Prelude.{Option}
+use Rattle.table.specs.declared.BddPointer.{BddPointer}
+use Rattle.pool.specs.Pool.{Hit, Miss, Pushing, Noding, Holds, Answers, pushed}
 
 pub differs : (x y : Node) → same x y ≡ false → x ≡ y → ⊥
 differs x y f e = let z : ◌≡◌ {A = ℕ} 1 0 = ap (λ b. cond b 1 0) (sym (same_refl x) ∙ ap (same x) e ∙ f) in omega arith
-
--- another low link tells two nodes apart
-pub low-tells : (x : Node) (v p q low : ℕ) → low ≡ x.low → (low ≡ p → ⊥) → false ≡ same x (node v p q)
-low-tells x v p q low el ne = rw (← el, ne_eqb low p ne) (middle (eqb x.mark v) (eqb x.high q))
-  where
-    middle : (a c : Bool) → false ≡ a && false && c
-    middle true c = refl
-    middle false c = refl
 
 -- a push changes nothing from the room on
 pub beyond_push : (room k v p q : ℕ) (w w' : List ℕ) → k < room → w' ≡ with_node w k v p q → Beyond room w w'
@@ -99,6 +88,6 @@ module _ (w : List ℕ) (n room k v p q : ℕ) (r : Noding w n room k v p q) whe
       made (inr m) f = absurd (let z : ⊥ = omega (arith, m.place) in z)
 
   -- pushed after a search that found none
-  pub node_pushed : (p ≡ q → ⊥) → (found : Found) → Searched w k v p q found → found ≡ Nowhere → (w' : List ℕ) (answer : Noted)
+  pub node_pushed : (p ≡ q → ⊥) → Miss w k v p q → (w' : List ℕ) (answer : Option (BddPointer × ℕ))
       → Answers (pushed w k v p q) room w' answer → Answers (mk (nodes k w) v p q) room w' answer
-  node_pushed ne found s e w' answer a = subst (λ z. Answers z room w' answer) (sym (none ne (subst (Searched w k v p q) e s))) a
+  node_pushed ne m w' answer a = subst (λ z. Answers z room w' answer) (sym (none ne m)) a

@@ -1,4 +1,3 @@
-pub mod SideLaws
 pub mod SplitLaws
 pub mod SettleLaws
 pub mod PutLaws

@@ -7,19 +7,21 @@ use Prim.Native.Nat.{ℕ, ◌-◌, ◌≤◌, ◌<◌}
 use native.Mathlib.Omega.{arith}
 use native.Mathlib.Decide.{dec_lt}
 use lib.Dec.{ltb}
-use borrow.Author.Tests.{lt-ltb, le-ltb}
+use borrow.Author.Tests.{lt-ltb, le-ltb, ltb-true, ltb-false}
 use Rattle.theory.specs.Table.{Reduced}
 use Rattle.theory.specs.Words.{nodes}
 use Rattle.refusal.specs.Number.{order, LIMIT, SHORT, TABLE, REDUCED}
-use Rattle.refusal.specs.Verdict.{Verdict, refused, answered, first_of, tried, judged, replied, refused_with, gives}
+use Rattle.refusal.specs.Verdict.{Verdict, refused, answered, first_of, tried, judged, replied, refused_with, refusal_reply, gives}
+use Rattle.std.specs.Prelude.{Ok, Err}
+use Rattle.refusal.specs.Told.{refuse_if}
+use Rattle.refusal.specs.declared.RefusalKind.TheVariants as kind
 use Rattle.refusal.specs.declared.Refusal.{Refusal}
 use Rattle.refusal.proofs.Firsts.{first-before, first_fails}
-use Rattle.refusal.proofs.Judged.{Clean, judged-either}
+use Rattle.refusal.proofs.Judged.{Clean, judged-either, refusal_stays, test_passed, test_refused}
 use Rattle.table.specs.declared.BddPointer.{BddPointer}
-use Rattle.table.specs.declared.Inspection.{Inspection}
-use Rattle.table.specs.declared.Inspection.TheVariants.{Sound, Refused}
-use Rattle.table.specs.Inspection.{inspection_reply, refusal_in, over_limit, too_short, first_bad, table_findings, root_of, inspects, SoundTable}
-use Rattle.table.proofs.AdmissionLaws.{admission_refused, admission_clean}
+use Rattle.table.specs.declared.Inspection.TheVariants.{Sound}
+use Rattle.table.specs.Inspection.{pointer, inspection_reply, over_limit, too_short, first_bad, table_findings, root_of, inspects, SoundTable}
+use Rattle.table.proofs.AdmissionLaws.{admission_clean}
 use Rattle.table.proofs.Inspected.{inspects-sound, sound-inspects}
 use Rattle.reduced.specs.Reduced.{node_reduced, first_unreduced, admits_walk}
 use Rattle.reduced.proofs.ReducedLaws.{none_unreduced, unreduced_none}
@@ -39,30 +41,33 @@ module _ (n count : ℕ) (w : List ℕ) where
   passes : count ≤ first_unreduced n count w → reduced_or ≡ root_of count
   passes h = rw (le-ltb _ _ h)
 
-  module _ (a : Inspection) (e : inspection_reply a ≡ replied (inspects n count w)) where
-    given : inspection_reply a ≡ replied (judged (table_findings n count w) (root_of count))
+  -- refused in inspection, a walk's start is refused
+  pub check_refused : (r : Refusal) → refusal_reply r ≡ replied (inspects n count w) → refusal_reply r ≡ replied (admits_walk n count w)
+  unfolding inspects replied
+  check_refused r e = sym (ap replied (walk_is ∙ refusal_stays (table_findings n count w) r (count - 1) [] [] e reduced_or))
+
+  module _ (p : BddPointer) (e : gives (pointer p) ≡ replied (inspects n count w)) where
+    clean : Clean (judged (table_findings n count w)) × (p.0 ≡ count - 1)
+    unfolding inspects inspection_reply
+    clean = admission_clean (table_findings n count w) count (Sound p) e p refl
+
+    pub check_sound : SoundTable n count w p.0
     unfolding inspects
-    given = e
+    check_sound = rw clean.1 (inspects-sound n count w (clean.0 (root_of count)))
 
-    pub check_refused : (r : Refusal) → a ≡ Refused r → inspection_reply a ≡ replied (admits_walk n count w)
-    unfolding inspection_reply replied
-    check_refused r is = ap inspection_reply is ∙ sym (ap replied (walk_is ∙ admission_refused (table_findings n count w) count a given r r is (sym (ap refusal_in is)) reduced_or))
-
-    module _ (p : BddPointer) (is : a ≡ Sound p) where
-      clean : Clean (judged (table_findings n count w)) × (p.0 ≡ count - 1)
-      clean = admission_clean (table_findings n count w) count a given p is
-
-      pub check_sound : SoundTable n count w p.0
-      unfolding inspects
-      check_sound = rw clean.1 (inspects-sound n count w (clean.0 (root_of count)))
-
-      pub check_unreduced : (bad : ℕ) → bad ≡ first_unreduced n count w → bad < count → refused_with REDUCED bad ≡ replied (admits_walk n count w)
+    module _ (bad : ℕ) (at : bad ≡ first_unreduced n count w) where
+      pub check_unreduced : (r : Refusal) → Err r ≡ refuse_if (ltb bad count) kind.Reduced bad → refusal_reply r ≡ replied (admits_walk n count w)
       unfolding replied
-      check_unreduced bad b h = ap (refused_with REDUCED) b ∙ sym (ap replied (walk_is ∙ clean.0 reduced_or ∙ offends (omega arith)))
+      check_unreduced r t =
+          let h : (ltb bad count ≡ true) × (r ≡ record { kind = kind.Reduced; place = bad }) = test_refused _ _ _ r t in
+          ap refusal_reply h.1 ∙ ap (refused_with REDUCED) at
+          ∙ sym (ap replied (walk_is ∙ clean.0 reduced_or ∙ offends (omega (arith, at, ltb-true _ _ h.0))))
 
-      pub check_reduced : (bad : ℕ) → bad ≡ first_unreduced n count w → count ≤ bad → gives (p.0 ∷ []) ≡ replied (admits_walk n count w)
+      pub check_reduced : (x : Unit {0}) → Ok x ≡ refuse_if (ltb bad count) kind.Reduced bad → gives (pointer p) ≡ replied (admits_walk n count w)
       unfolding replied
-      check_reduced bad b h = ap (λ k. gives (k ∷ [])) clean.1 ∙ sym (ap replied (walk_is ∙ clean.0 reduced_or ∙ passes (omega arith)))
+      check_reduced x t =
+          ap (λ k. gives (k ∷ [])) clean.1
+          ∙ sym (ap replied (walk_is ∙ clean.0 reduced_or ∙ passes (omega (arith, at, ltb-false _ _ (test_passed _ _ _ x t)))))
 
   -- what inspection lets pass
   sound-passes : SoundTable n count w (count - 1) → (v : Verdict) → judged (table_findings n count w) v ≡ v

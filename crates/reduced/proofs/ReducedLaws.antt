@@ -1,9 +1,9 @@
 -- The tests of a reduced table: a table is reduced exactly if it is ordered and each node passes; and the marks of the reachable nodes.
-use mathlib.Core.Path.{◌≡◌, refl, sym, ap, subst, ◌∙◌}
+use mathlib.Core.Path.{◌≡◌, refl, sym, ap, ◌∙◌}
 use mathlib.Core.Logic.{◌≢◌, ◌⊎◌, inl, inr}
 use mathlib.Core.Bool.{Bool, true, false, not, ◌&&◌}
 use mathlib.Core.List.{List}
-use Prim.Native.Nat.{ℕ, zero, suc, ◌-◌, ◌≤◌, ◌<◌}
+use Prim.Native.Nat.{ℕ, zero, suc, ◌+◌, ◌*◌, ◌-◌, ◌≤◌, ◌<◌}
 use native.Mathlib.Omega.{arith}
 use native.Mathlib.Decide.{ℕ_discrete, dec_lt}
 use lib.Dec.{eqb, leb}
@@ -11,16 +11,16 @@ use lib.ListN.{length, get_or, set, replicate, length-set, length-replicate}
 use lib.Seq.{get_or-set_same, get_or-set_other}
 use borrow.Author.Tests.{eq-eqb, ne_eqb, eqb-false, lt-ltb, le-ltb, le-leb, leb-true, not-true}
 use Rattle.theory.specs.Table.{Node, node, Table, at, child_of, same, num, Ordered, Reduced}
-use Rattle.theory.specs.Words.{node_at, nodes}
+use Rattle.theory.specs.Words.{stride, node_at, nodes}
 use Rattle.theory.proofs.Find.{same_refl, same-eq}
 use Rattle.theory.proofs.Words.{length-nodes, at-nodes, child_falls}
 use Rattle.theory.proofs.Truths.{clash, bool_cases, and_true, or_left, or_right, or_cases}
-use Rattle.refusal.specs.Limits.{max_marks, max_nodes}
+use Rattle.refusal.specs.Limits.{max_nodes}
 use Rattle.refusal.proofs.Firsts.{first-before, first-none}
 use Rattle.table.specs.Inspection.{SoundTable}
 use Rattle.pool.specs.Pool.{Hit, Miss, Searched}
-use Rattle.pool.specs.declared.Found.{Found}
-use Rattle.pool.specs.declared.Found.TheVariants.{At, Nowhere}
+use Rattle.std.specs.Prelude.{Option, Some, None}
+use Rattle.std.specs.Option.{is_some}
 use Rattle.table.specs.declared.BddPointer.{BddPointer}
 use Rattle.reduced.specs.Reduced.{reachable, repeated, node_reduced, first_unreduced, links_marked, Marked}
 use Rattle.reduced.proofs.ReachLaws.{spreads, constant_child, reachable-root, reachable_child, constant_mark, of_reachable, to-reachable}
@@ -66,16 +66,6 @@ module _ (n : ℕ) (s : Table) where
   tested : (i : ℕ) → 2 ≤ i → node_reduced n s i ≡ not (eqb (at s i).low (at s i).high) && not (repeated s (at s i) i) && reachable n s i
   unfolding node_reduced
   tested i h = rw (le-ltb i 2 h)
-
-  pub same-links_fail : (i : ℕ) → 2 ≤ i → (at s i).low ≡ (at s i).high → node_reduced n s i ≡ false
-  same-links_fail i h e = tested i h ∙ rw (eq-eqb _ _ e)
-
-  pub repeats_fail : (i : ℕ) → 2 ≤ i → repeated s (at s i) i ≡ true → node_reduced n s i ≡ false
-  repeats_fail i h e = tested i h ∙ rw e (none (eqb (at s i).low (at s i).high))
-    where
-      none : (a : Bool) → not a && not true && reachable n s i ≡ false
-      none true = refl
-      none false = refl
 
   pub else_reachable : (i : ℕ) → 2 ≤ i → (at s i).low ≢ (at s i).high → repeated s (at s i) i ≡ false → node_reduced n s i ≡ reachable n s i
   else_reachable i h a e = tested i h ∙ rw (ne_eqb _ _ a, e)
@@ -194,10 +184,18 @@ module _ (n count : ℕ) (w : List ℕ) (root : ℕ) (t : SoundTable n count w r
         ]))
   ]
 
-  pub marking_again : (p : ℕ) (marks after : List ℕ) → 1 < p → p < count → Marking n count w (suc p) marks → after ≡ links_marked w p marks → (Marking n count w (suc (p - 1)) after) × (p - 1 < count)
+  -- the links of a node that is looked at are marks
+  pub marking_lies : (p : ℕ) (marks : List ℕ) → 2 < p → p ≤ count → Marking n count w p marks
+      → (stride * (p - 1) + 2 < length w) × (p - 1 < length marks) × ((node_at w (p - 1)).low < length marks) × ((node_at w (p - 1)).high < length marks)
+  marking_lies p marks two h m =
+      let low : (node_at w (p - 1)).low < p - 1 = child_falls n count w t.ordered (p - 1) false (omega arith) (omega arith) in
+      let high : (node_at w (p - 1)).high < p - 1 = child_falls n count w t.ordered (p - 1) true (omega arith) (omega arith) in
+      (omega (arith, t.long), omega (arith, m.long, t.few), omega (arith, m.long, t.few), omega (arith, m.long, t.few))
+
+  pub marking_again : (p : ℕ) (marks after : List ℕ) → 2 < p → p ≤ count → Marking n count w p marks → after ≡ links_marked w (p - 1) marks → Marking n count w (p - 1) after
   marking_again p marks after two h m e =
       let z : suc (p - 1) ≡ p = omega arith in
-      (rw (z, e) (marking_step p marks two h m), omega arith)
+      rw e (marking_step (p - 1) marks (omega arith) (omega arith) (rw z m))
 
   abbrev zeros : List ℕ
   zeros = replicate max_nodes 0
@@ -218,11 +216,11 @@ module _ (n count : ℕ) (w : List ℕ) (root : ℕ) (t : SoundTable n count w r
         closed = λ p b h two l. absurd (omega (arith, t.last));
       }
 
-  pub marking_first : (marks : List ℕ) → marks ≡ replicate max_nodes 0 → (Marking n count w (suc root) (set marks root 1)) × (root < count)
-  marking_first marks e = (rw e marking_start, omega (arith, t.last, t.some))
+  pub marking_first : (marks : List ℕ) → marks ≡ replicate max_nodes 0 → Marking n count w (suc root) (set marks root 1)
+  marking_first marks e = rw e marking_start
 
   -- all nodes looked at: the marks are right
-  pub marking_done : (p : ℕ) (marks : List ℕ) → p ≤ 1 → Marking n count w (suc p) marks → Marked n count w marks
+  pub marking_done : (p : ℕ) (marks : List ℕ) → p ≤ 2 → Marking n count w p marks → Marked n count w marks
   unfolding reachable
   marking_done p marks h m = record { long = omega (arith, m.long, t.few); right = right }
     where
@@ -267,30 +265,14 @@ module _ (n count : ℕ) (w : List ℕ) (root : ℕ) (t : SoundTable n count w r
         let is : node_at w j ≡ node_at w p = sym (at-word j (omega arith)) ∙ e in
         m j (omega (arith, is-l, ap (λ (x : Node). x.low) is, child_falls n count w t.ordered j false c (omega arith))) (omega (arith, is-h, ap (λ (x : Node). x.high) is, child_falls n count w t.ordered j true c (omega arith))) d (is ∙ sym triple)))
 
-    pub found_repeats : (r : Found) → Searched w p v l h r → (q : BddPointer) → r ≡ At q → true ≡ repeated s (node_at w p) p
-    found_repeats r a q e = hit_repeats q.0 (subst (λ z. Searched w p v l h z) e a)
+    pub searched_repeats : (r : Option BddPointer) → Searched w p v l h r → is_some r ≡ repeated s (node_at w p) p
+    searched_repeats (Some q) a = hit_repeats q.0 a
+    searched_repeats None a = miss_repeats a
 
-    pub nowhere_repeats : (r : Found) → Searched w p v l h r → r ≡ Nowhere → false ≡ repeated s (node_at w p) p
-    nowhere_repeats r a e = miss_repeats (subst (λ z. Searched w p v l h z) e a)
-
-  -- what the test of a node answers
-  module _ (p : ℕ) (two : 2 ≤ p) (below : p < count) where
-    pub same-links : (l h : ℕ) → l ≡ (node_at w p).low → h ≡ (node_at w p).high → l ≡ h → false ≡ node_reduced n s p
-    same-links l h a b e = sym (same-links_fail n s p two (rw (at-word p below) (sym a ∙ e ∙ b)))
-
-    pub repeats : true ≡ repeated s (node_at w p) p → false ≡ node_reduced n s p
-    repeats e = sym (repeats_fail n s p two (rw (at-word p below) (sym e)))
-
-    pub marked_reduced : (marks : List ℕ) → Marked n count w marks → (l h : ℕ) → l ≡ (node_at w p).low → h ≡ (node_at w p).high → l ≢ h → false ≡ repeated s (node_at w p) p
-        → not (eqb (get_or marks p 0) 0) ≡ node_reduced n s p
-    marked_reduced marks m l h a b d e =
-        ap (λ k. not (eqb k 0)) (m.right p below) ∙ said (reachable n s p)
-        ∙ sym (else_reachable n s p two (rw (at-word p below) (λ z. d (a ∙ z ∙ sym b))) (rw (at-word p below) (sym e)))
-      where
-        said : (r : Bool) → not (eqb (num r) 0) ≡ r
-        said true = refl
-        said false = refl
-
-  -- a node's mark word fits
-  pub mark-fits : (p : ℕ) → 2 ≤ p → p < count → (node_at w p).mark ≤ max_marks
-  mark-fits p two h = omega (arith, t.marks, rw (at-word p h) at (t.ordered.marks p two (omega (arith, length-nodes count w))))
+  -- a node's mark says whether it is reachable
+  pub marked_says : (p : ℕ) (marks : List ℕ) → p < count → Marked n count w marks → not (eqb (get_or marks p 0) 0) ≡ reachable n s p
+  marked_says p marks below m = ap (λ k. not (eqb k 0)) (m.right p below) ∙ said (reachable n s p)
+    where
+      said : (r : Bool) → not (eqb (num r) 0) ≡ r
+      said true = refl
+      said false = refl

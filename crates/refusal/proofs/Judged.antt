@@ -8,11 +8,14 @@ use native.Mathlib.Omega.{arith}
 use native.Mathlib.Decide.{ℕ_discrete}
 use lib.Dec.{eqb}
 use borrow.Author.Tests.{eq-eqb, ne_eqb, eqb-true}
-use Rattle.refusal.specs.Number.{order}
+use Rattle.refusal.specs.Number.{order, number_of}
 use Rattle.refusal.specs.Buffers.{zeroing, buffer_after, work_after}
 use Rattle.refusal.specs.Verdict.{Verdict, refused, answered, Finding, first_of, tried, judged, Reply, replied, refused_with, gives, refusal_reply}
+use Rattle.refusal.specs.Told.{refuse_if}
 use Rattle.refusal.specs.declared.Refusal.{Refusal}
-use Rattle.refusal.proofs.Single.{no-values}
+use Rattle.refusal.specs.declared.RefusalKind.{RefusalKind}
+use Rattle.std.specs.Prelude.{Ok, Err}
+use Rattle.refusal.proofs.Single.{no_values, no-values, number_positive}
 
 -- a refusal is no answer
 pub not-answered : (k p : ℕ) (vs : List ℕ) (outs : List (List ℕ)) → refused k p ≡ answered vs outs → ⊥
@@ -59,28 +62,28 @@ unfolding judged order
 judged_fate fs = tried_fate order refl fs
 
 -- a check answers nothing by itself; where it refuses, so does every call with the same findings, and else the call answers
-pub judged-refuses : (fs : List Finding) (v : Verdict) (r : Refusal) → refusal_reply r ≡ replied (judged fs (answered [] [])) → r.number ≢ 0 → judged fs v ≡ refused r.number r.place
+pub judged_refuses : (fs : List Finding) (v : Verdict) (r : Refusal) → refusal_reply r ≡ replied (judged fs (answered [] [])) → judged fs v ≡ refused (number_of r.kind) r.place
 unfolding replied
-judged-refuses fs v r e h = elim (judged_fate fs) [
+judged_refuses fs v r e = elim (judged_fate fs) [
   | stopped k p d s ↦
       let q : refusal_reply r ≡ replied (refused k p) = e ∙ ap replied (s (answered [] [])) in
       s v ∙ sym (ap₂ refused (ap (λ (x : Reply). x.number) q) (ap (λ (x : Reply). x.place) q))
-  | left s ↦ absurd (h (ap (λ (x : Reply). x.number) (e ∙ ap replied (s (answered [] [])))))
+  | left s ↦ absurd (omega (arith, number_positive r.kind, ap (λ (x : Reply). x.number) (e ∙ ap replied (s (answered [] [])))))
 ]
 
-pub judged_stops : (fs : List Finding) (v : Verdict) (r : Refusal) → refusal_reply r ≡ replied (judged fs (answered [] [])) → r.number ≢ 0 → refusal_reply r ≡ replied (judged fs v)
+pub judged_stops : (fs : List Finding) (v : Verdict) (r : Refusal) → refusal_reply r ≡ replied (judged fs (answered [] [])) → refusal_reply r ≡ replied (judged fs v)
 unfolding replied
-judged_stops fs v r e h = ap replied (sym (judged-refuses fs v r e h))
+judged_stops fs v r e = ap replied (sym (judged_refuses fs v r e))
 
-pub judged-goes : (fs : List Finding) (v : Verdict) (r : Refusal) → refusal_reply r ≡ replied (judged fs (answered [] [])) → r.number ≡ 0 → judged fs v ≡ v
+pub judged_goes : (fs : List Finding) (v : Verdict) → gives [] ≡ replied (judged fs (answered [] [])) → judged fs v ≡ v
 unfolding replied
-judged-goes fs v r e h = elim (judged_fate fs) [
-  | stopped k p d s ↦ absurd (d (sym (ap (λ (x : Reply). x.number) (e ∙ ap replied (s (answered [] [])))) ∙ h))
+judged_goes fs v e = elim (judged_fate fs) [
+  | stopped k p d s ↦ absurd (d (sym (ap (λ (x : Reply). x.number) (e ∙ ap replied (s (answered [] []))))))
   | left s ↦ s v
 ]
 
-pub judged-answers : (fs : List Finding) (v : Verdict) (r : Refusal) → refusal_reply r ≡ replied (judged fs (answered [] [])) → r.number ≡ 0 → (x : Reply) → x ≡ replied v → x ≡ replied (judged fs v)
-judged-answers fs v r e h x a = a ∙ ap replied (sym (judged-goes fs v r e h))
+pub judged_answers : (fs : List Finding) (v : Verdict) → gives [] ≡ replied (judged fs (answered [] [])) → (x : Reply) → x ≡ replied v → x ≡ replied (judged fs v)
+judged_answers fs v e x a = a ∙ ap replied (sym (judged_goes fs v e))
 
 -- a call that answers was not refused: it answers what it would without the findings, and so does every call with the same findings
 pub judged-answer : (fs : List Finding) (v : Verdict) (vs : List ℕ) (outs : List (List ℕ)) → judged fs v ≡ answered vs outs → (u : Verdict) → judged fs u ≡ u
@@ -88,6 +91,15 @@ judged-answer fs v vs outs e = elim (judged_fate fs) [
   | stopped k p d s ↦ absurd (not-answered k p vs outs (sym (s v) ∙ e))
   | left s ↦ s
 ]
+
+-- one test: it let the call pass, or refused it
+pub test_passed : (b : Bool) (k : RefusalKind) (p : ℕ) (x : Unit {0}) → Ok x ≡ refuse_if b k p → b ≡ false
+test_passed true k p x e = cc
+test_passed false k p x e = refl
+
+pub test_refused : (b : Bool) (k : RefusalKind) (p : ℕ) (r : Refusal) → Err r ≡ refuse_if b k p → (b ≡ true) × (r ≡ record { kind = k; place = p })
+test_refused true k p r e = (refl, cc)
+test_refused false k p r e = cc
 
 -- a rule that puts a refusal before a verdict: it lets every verdict pass, or refuses whatever comes
 pub record Caught (rule : Verdict → Verdict) : Type 0 where
@@ -107,7 +119,7 @@ judged-either fs = elim (judged_fate fs) [
 
 -- a call that was refused in its admission is refused in the same way whatever it would have answered
 pub refusal_stays : (fs : List Finding) (r : Refusal) (a : ℕ) (more : List ℕ) (outs : List (List ℕ))
-    → refusal_reply r ≡ replied (judged fs (answered (a ∷ more) outs)) → (v : Verdict) → judged fs v ≡ refused r.number r.place
+    → refusal_reply r ≡ replied (judged fs (answered (a ∷ more) outs)) → (v : Verdict) → judged fs v ≡ refused (number_of r.kind) r.place
 unfolding replied
 refusal_stays fs r a more outs e v = elim (judged-either fs) [
   | inl clean ↦ no-values r a more (e ∙ ap replied (clean (answered (a ∷ more) outs)))
@@ -119,11 +131,11 @@ refusal_stays fs r a more outs e v = elim (judged-either fs) [
 -- an answer with a value passed each test on its way
 pub passes : (b : Bool) (k p a : ℕ) (more : List ℕ) (v : Verdict) → gives (a ∷ more) ≡ replied (cond b (refused k p) v) → (b ≡ false) × (gives (a ∷ more) ≡ replied v)
 unfolding replied
-passes true k p a more v e = no-values (record { number = k; place = p }) a more (sym e)
+passes true k p a more v e = no_values k p a more (sym e)
 passes false k p a more v e = (refl, e)
 
 -- refused with a number that zeroes nothing, a call leaves its work as it was
-pub work_untouched : (r : Refusal) (v : Verdict) (work : List ℕ) → v ≡ refused r.number r.place → zeroing r.number ≡ false → (refusal_reply r ≡ replied v) × (work ≡ work_after v work)
+pub work_untouched : (r : Refusal) (v : Verdict) (work : List ℕ) → v ≡ refused (number_of r.kind) r.place → zeroing (number_of r.kind) ≡ false → (refusal_reply r ≡ replied v) × (work ≡ work_after v work)
 unfolding replied buffer_after
 work_untouched r v work is quiet = rw is (refl, rw quiet)
 

@@ -3,5 +3,5 @@ pub mod Limits
 pub mod Verdict
 pub mod Buffers
 pub mod First
-pub mod Truth
-pub mod Counted
+pub mod Told
+pub mod Shown

@@ -1,6 +1,6 @@
 -- What a call answers: one verdict for each input, and its reply in the specification's numbers.
 use Rattle.std.specs.Prelude.{Bool, cond, ◌&&◌, List, [], ◌∷◌, ℕ, eqb}
-use Rattle.refusal.specs.Number.{order}
+use Rattle.refusal.specs.Number.{order, number_of}
 use Rattle.refusal.specs.declared.Refusal.{Refusal}
 
 -- a refusal with its number and place; or an answer: its values, and the words that each lent output gets, in the order of the arguments
@@ -44,7 +44,7 @@ abbrev pub gives : List ℕ → Reply
 gives vs = record { number = 0; place = 0; values = vs }
 
 abbrev pub refusal_reply : Refusal → Reply
-refusal_reply r = refused_with r.number r.place
+refusal_reply r = refused_with (number_of r.kind) r.place
 
 unfoldable pub replied : Verdict → Reply
 replied (refused k p) = refused_with k p

@@ -5,158 +5,46 @@
 
 ghost use Rattle.std.specs.Prelude.{◌≤◌, length};
 
-use calls::Call;
+use calls::{Call, Counted, Lent};
+use lines::{LINE_END, Numbers, Word};
+use std::fmt;
+use telling::Text;
 
-// The call itself; 0 where there is no such entry.
-fn make_call(
-    c: Call,
-    left: &[u32],
-    right: &[u32],
-    list: &[u64],
-    nodes: &mut [u32],
-    clauses: &mut [u64],
-    work: &mut [u32],
-    reply: &mut [u64],
-) -> u64 {
-    let entry = c.entry;
-    match entry {
-        0 | 1 | 31 | 32 => calls::call_of_table(c, left, reply),
-        2..=13 => calls::call_of_valuation(c, left, reply),
-        14 | 21 | 22 => calls::call_of_unary(c, left, nodes, work, reply),
-        15..=17 => calls::call_of_pair(c, left, right, nodes, work, reply),
-        18..=20 => calls::call_of_mark(c, left, nodes, work, reply),
-        23..=26 => calls::call_of_builder(c, list, nodes, work, reply),
-        27 => calls::call_of_cover(c, left, list, work, reply),
-        28..=30 => calls::call_of_lister(c, left, clauses, work, reply),
-        33 => calls::call_of_sheet(list, clauses, nodes, reply),
-        34 => calls::call_of_posting(c, list, clauses, reply),
-        35 => calls::call_of_walk(c, left, reply),
-        _ => 0,
+// A count, and a slice to the front of a buffer.
+fn take_counted<'a, W: Word>(numbers: &mut Numbers, buffer: &'a mut [W]) -> Counted<'a, W> {
+    let count = numbers.take() as usize;
+    let length = numbers.take_slice(buffer);
+    Counted {
+        count,
+        words: &buffer[..length],
     }
 }
 
-// All four buffers are as the line wants them from `at` on.
-fn agrees(
-    line: &[u64],
-    at: usize,
-    reply: &[u64],
-    nodes: &[u32],
-    clauses: &[u64],
-    work: &[u32],
-) -> bool {
-    let at_nodes = lines::after_wanted(line, at);
-    let at_clauses = lines::after_wanted(line, at_nodes);
-    let at_work = lines::after_wanted(line, at_clauses);
-    if !lines::agrees_u64(line, at, reply) {
-        return false;
-    }
-    if !lines::agrees_u32(line, at_nodes, nodes) {
-        return false;
-    }
-    if !lines::agrees_u64(line, at_clauses, clauses) {
-        return false;
-    }
-    lines::agrees_u32(line, at_work, work)
-}
-
-// Rubbish in all lent buffers, the call, and the comparison.
-fn call_agrees(
-    line: &[u64],
-    at: usize,
-    c: Call,
-    left: &[u32],
-    right: &[u32],
-    list: &[u64],
-    nodes: &mut [u32],
-    clauses: &mut [u64],
-    work: &mut [u32],
-) -> bool {
+// The buffers are locals of the longest lengths of a line: there is no heap.
+// The call answers as the line wants, which goes on with the lent buffers' lengths: rubbish in them all, the call, and the comparison.
+fn call_agrees(call: Call, mut numbers: Numbers) -> bool {
     let mut reply = [0u64; 64];
-    lines::lend_u64(&mut reply);
-    lines::lend_u32(nodes);
-    lines::lend_u64(clauses);
-    lines::lend_u32(work);
-    if make_call(c, left, right, list, nodes, clauses, work, &mut reply) != 1 {
-        return false;
-    }
-    agrees(line, at, &reply, nodes, clauses, work)
-}
-
-fn read_call(line: &[u64], at_right: usize, at_list: usize) -> Call {
-    Call {
-        entry: lines::number_at(line, 0),
-        first: lines::number_at(line, 1),
-        second: lines::number_at(line, 2),
-        third: lines::number_at(line, 3),
-        fourth: lines::number_at(line, 4),
-        count: lines::to_usize(lines::number_at(line, 5)),
-        other_count: lines::to_usize(lines::number_at(line, at_right)),
-        list_count: lines::to_usize(lines::number_at(line, at_list)),
-    }
-}
-
-// The lent buffers cut to the lengths that stand at `at`.
-fn lent_agrees(
-    line: &[u64],
-    at: usize,
-    c: Call,
-    left: &[u32],
-    right: &[u32],
-    list: &[u64],
-    nodes: &mut [u32],
-    clauses: &mut [u64],
-    work: &mut [u32],
-) -> bool {
-    let node_words = lines::at_most(lines::number_at(line, at), nodes.len());
-    let at_clauses = lines::onward(line, at, 1);
-    let clause_words = lines::at_most(lines::number_at(line, at_clauses), clauses.len());
-    let at_work = lines::onward(line, at_clauses, 1);
-    let work_words = lines::at_most(lines::number_at(line, at_work), work.len());
-    let wanted = lines::onward(line, at_work, 1);
-    call_agrees(
-        line,
-        wanted,
-        c,
-        left,
-        right,
-        list,
-        &mut nodes[..node_words],
-        &mut clauses[..clause_words],
-        &mut work[..work_words],
-    )
-}
-
-// The tables and the list cut to their lengths.
-fn cut_agrees(
-    line: &[u64],
-    left: &[u32],
-    right: &[u32],
-    list: &[u64],
-    nodes: &mut [u32],
-    clauses: &mut [u64],
-    work: &mut [u32],
-) -> bool {
-    let at_right = lines::after_slice(line, 6);
-    let at_list = lines::after_slice(line, lines::onward(line, at_right, 1));
-    lent_agrees(
-        line,
-        lines::after_slice(line, lines::onward(line, at_list, 1)),
-        read_call(line, at_right, at_list),
-        lines::front_u32(line, 6, left),
-        lines::front_u32(line, lines::onward(line, at_right, 1), right),
-        lines::front_u64(line, lines::onward(line, at_list, 1), list),
-        nodes,
-        clauses,
-        work,
-    )
-}
-
-fn fill_inputs(line: &[u64], left: &mut [u32], right: &mut [u32], list: &mut [u64]) {
-    let at_right = lines::after_slice(line, 6);
-    let at_list = lines::after_slice(line, lines::onward(line, at_right, 1));
-    lines::fill_u32(line, 6, left);
-    lines::fill_u32(line, lines::onward(line, at_right, 1), right);
-    lines::fill_u64(line, lines::onward(line, at_list, 1), list);
+    let mut nodes = [0u32; 384];
+    let mut clauses = [0u64; 128];
+    let mut work = [0u32; 8192];
+    let nodes = &mut nodes[..lines::at_most(numbers.take(), 384)];
+    let clauses = &mut clauses[..lines::at_most(numbers.take(), 128)];
+    let work = &mut work[..lines::at_most(numbers.take(), 8192)];
+    lines::lend(&mut reply);
+    lines::lend(nodes);
+    lines::lend(clauses);
+    lines::lend(work);
+    let lent = Lent {
+        nodes: &mut *nodes,
+        clauses: &mut *clauses,
+        work: &mut *work,
+        reply: &mut reply,
+    };
+    calls::make(call, lent) == 1
+        && numbers.agrees(&reply)
+        && numbers.agrees(nodes)
+        && numbers.agrees(clauses)
+        && numbers.agrees(work)
 }
 
 // The line's call answers as the line wants.
@@ -164,41 +52,50 @@ fn line_agrees(line: &[u64]) -> bool {
     let mut left = [0u32; 96];
     let mut right = [0u32; 96];
     let mut list = [0u64; 512];
-    let mut nodes = [0u32; 384];
-    let mut clauses = [0u64; 128];
-    let mut work = [0u32; 8192];
-    fill_inputs(line, &mut left, &mut right, &mut list);
-    cut_agrees(
-        line,
-        &left,
-        &right,
-        &list,
-        &mut nodes,
-        &mut clauses,
-        &mut work,
-    )
+    let mut numbers = Numbers::new(line);
+    let entry = numbers.take();
+    let first = numbers.take();
+    let second = numbers.take();
+    let third = numbers.take();
+    let fourth = numbers.take();
+    let call = Call {
+        entry,
+        numbers: [first, second, third, fourth],
+        left: take_counted(&mut numbers, &mut left),
+        right: take_counted(&mut numbers, &mut right),
+        list: take_counted(&mut numbers, &mut list),
+    };
+    call_agrees(call, numbers)
 }
 
-// Replays every line; each that differs is told, then the calls of each entry and the totals. How much of the output is written.
+// Each line that differs is told, then the calls of each entry and the totals.
+fn tell(bytes: &[u8], text: &mut Text) -> fmt::Result {
+    let mut line = [0u64; 1024];
+    let mut counts = [0u64; 36];
+    let mut calls: u64 = 0;
+    let mut differ: u64 = 0;
+    for row in bytes.split_inclusive(|byte| *byte == LINE_END) {
+        lines::read(row, &mut line);
+        let entry = line[0];
+        calls = calls.wrapping_add(1);
+        if entry < 36 {
+            counts[entry as usize] = counts[entry as usize].wrapping_add(1);
+        }
+        if !line_agrees(&line) {
+            differ = differ.wrapping_add(1);
+            text.put_difference(calls, entry)?;
+        }
+    }
+    text.put_counts(&counts)?;
+    text.put_total(calls, differ)
+}
+
+// Replays every line. How much of the output is written: what does not fit is let go, and so nothing fails.
 pub fn replay(bytes: &[u8], out: &mut [u8]) -> usize
     ensures { result ≤ length out.new }
 {
-    let mut line = [0u64; 1024];
-    let mut counts = [0u64; 36];
-    let mut made: u64 = 0;
-    let mut differ: u64 = 0;
-    let mut next: usize = 0;
-    let mut at: usize = 0;
-    while at < bytes.len() {
-        at = lines::read_line(bytes, at, &mut line);
-        made = telling::one_more(made);
-        telling::count_entry(&mut counts, line[0]);
-        if !line_agrees(&line) {
-            differ = telling::one_more(differ);
-            next = telling::put_difference(out, next, made, line[0]);
-        }
-    }
-    let counted = telling::put_counts(out, next, &counts);
-    let whole = telling::put_total(out, counted, made, differ);
-    lines::at_most(whole as u64, out.len())
+    let room = out.len();
+    let mut text = Text::new(out);
+    let _ = tell(bytes, &mut text);
+    text.len().min(room)
 }

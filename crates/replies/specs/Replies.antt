@@ -2,7 +2,6 @@
 use Rattle.std.specs.Prelude.{◌≡◌, cond, List, [], ◌∷◌, ℕ, ◌-◌, ltb, length, get_or}
 use Rattle.refusal.specs.Verdict.{Verdict, Reply, replied}
 use Rattle.refusal.specs.Buffers.{padded, output_after, work_after}
-use Rattle.replies.specs.declared.Written.{Written}
 
 -- the least length of a reply's buffer
 abbrev pub reply_length : ℕ
@@ -23,9 +22,9 @@ buffer_with words before = cond (ltb (length before) reply_length) before (padde
 abbrev pub reply_after : Verdict → List ℕ → List ℕ
 reply_after v = buffer_with (reply_words (replied v))
 
--- the first words of a reply, zeros behind its values
-abbrev pub written_words : Written → List ℕ
-written_words w = w.number ∷ w.place ∷ w.first ∷ w.second ∷ w.third ∷ []
+-- the most values that an answer has
+abbrev pub few_values : ℕ
+few_values = 62
 
 -- a lent buffer after the call: as the entry leaves it, or as it was where the reply's buffer is too short
 unfoldable pub lent_after : List ℕ → List ℕ → List ℕ → List ℕ

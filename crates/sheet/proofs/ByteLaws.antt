@@ -1,48 +1,11 @@
 -- Reading a number byte by byte, the most significant first, and numbers one after another.
 use mathlib.Core.Path.{◌≡◌, refl, sym, ap, ap₂, ◌∙◌}
 use mathlib.Core.List.{List, [], ◌∷◌, ◌++◌}
-use Prim.Native.Nat.{ℕ, zero, suc, ◌+◌, ◌*◌, ◌-◌, ◌/◌, ◌%◌, ◌^◌, ◌<◌, ◌≤◌}
+use Prim.Native.Nat.{ℕ, zero, suc, ◌+◌, ◌*◌, ◌/◌, ◌%◌, ◌^◌, ◌<◌, ◌≤◌}
 use native.Mathlib.Omega.{arith}
-use native.Mathlib.Nat.{pow-le-pow_right}
 use lib.ListN.{length, get_or, set, take, drop, length-set, length-append}
 use lib.Seq.{take-suc-set, drop-cons}
 use Rattle.sheet.specs.Bytes.{le_word, le_bytes, le_words}
-
--- the bytes from place at + left to place at + width have been read
-pub record Reading (bytes : List ℕ) (at width left word : ℕ) : Type 0 where
-  pub within : left ≤ width
-  pub is : word ≡ le_word (width - left) bytes (at + left)
-  pub small : word < 256 ^ (width - left)
-
-pub reading-none : (bytes : List ℕ) (at width : ℕ) → Reading bytes at width width 0
-unfolding le_word
-reading-none bytes at width =
-    let z : width - width ≡ 0 = omega arith in
-    record { within = omega arith; is = rw z; small = rw z (omega arith) }
-
-module _ (bytes : List ℕ) (at width left word : ℕ) (few : width ≤ 8) (some : 0 < left) (r : Reading bytes at width left word) where
-  pub reading-fits : 256 * word + 255 < 2 ^ 64
-  reading-fits =
-      let p : 256 ^ (width - left) ≤ 256 ^ 7 = pow-le-pow_right {n = 256} (omega arith) {i = width - left} {j = 7} (omega arith) in
-      omega (arith, p, r.small)
-
-  pub reading-more : (b : ℕ) → b ≡ get_or bytes (at + (left - 1)) 0 → b < 256 → Reading bytes at width (left - 1) (256 * word + b)
-  unfolding le_word
-  reading-more b e h =
-      let s : width - (left - 1) ≡ suc (width - left) = omega (arith, r.within) in
-      let n : at + (left - 1) + 1 ≡ at + left = omega arith in
-      let p : 256 ^ suc (width - left) ≡ 256 * 256 ^ (width - left) = omega arith in
-      record {
-        within = omega (arith, r.within);
-        is = rw (s, n) (omega (arith, r.is, e));
-        small = rw (s, p) (omega (arith, r.small));
-      }
-
-pub reading-all : (bytes : List ℕ) (at width left word : ℕ) → Reading bytes at width left word → left ≡ 0 → (word ≡ le_word width bytes at) × (word < 256 ^ width)
-reading-all bytes at width left word r z =
-    let s : width - left ≡ width = omega arith in
-    let a : at + left ≡ at = omega arith in
-    (r.is ∙ ap₂ (λ k i. le_word k bytes i) s a, rw s at r.small)
 
 -- the first numbers stand in the output
 pub record Filled (k : ℕ) (bytes : List ℕ) (place : ℕ) (out : List ℕ) (i : ℕ) (out' : List ℕ) : Type 0 where

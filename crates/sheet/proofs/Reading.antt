@@ -15,47 +15,46 @@ use Rattle.theory.specs.Words.{stride}
 use Rattle.cube.specs.Cube.{clause_at}
 use Rattle.refusal.specs.Number.{order, SHEET}
 use Rattle.refusal.specs.Limits.{max_marks}
-use Rattle.refusal.specs.Verdict.{Reply, Verdict, refused, answered, first_of, tried, judged, gives}
+use Rattle.refusal.specs.Verdict.{Verdict, refused, answered, first_of, tried, judged}
+use Rattle.refusal.specs.Told.{reply_of}
 use Rattle.refusal.proofs.Firsts.{first-before, first-none}
-use Rattle.refusal.proofs.Single.{OneToOne, Single, single, no-values, refusal-single}
+use Rattle.refusal.proofs.Single.{OneToOne, Single, single, reply-one}
 use Rattle.table.specs.Inspection.{over_limit, too_short, first_bad}
 use Rattle.table.proofs.InspectLaws.{within, long, none_bad, bad_none}
 use Rattle.builders.specs.Builders.{over_list, bad_entry, first_bad_entry}
 use Rattle.builders.proofs.ListLaws.{listed}
 use Rattle.sheet.specs.declared.Header.{Header}
 use Rattle.sheet.specs.declared.Section.{Section}
-use Rattle.sheet.specs.declared.SheetRead.TheVariants.{Dnf, Cnf, Table, Refused}
+use Rattle.entries.specs.declared.Form.TheVariants.{Dnf, Cnf}
+use Rattle.sheet.specs.declared.Kind.{Kind}
+use Rattle.sheet.specs.declared.Kind.TheVariants.{Clauses, Table}
 use Rattle.sheet.specs.Layout.{Whole, ClauseSheet, TableSheet}
-use Rattle.sheet.specs.Sheet.{sheet_reply, table_kind, decode_header, headless, clauses_misplaced, nodes_misplaced, clause_words, node_words, first_malformed, clause_kind, clause_findings, node_findings, gives_clauses, gives_table, reads_sheet}
+use Rattle.sheet.specs.Sheet.{kind_number, section_words, table_kind, decode_header, headless, clauses_misplaced, nodes_misplaced, clause_words, node_words, first_malformed, clause_kind, clause_findings, node_findings, gives_clauses, gives_table, reads_sheet}
 use Rattle.sheet.proofs.HeaderLaws.{placed, in_place, whole, has_header}
 use Rattle.sheet.proofs.SheetLaws.{not-over, reads_with_lem, reads_clauses, reads_table, reads_none}
 
 -- ---- one to one
-section_same : (a b : ℕ) (s t : Section) → gives (a ∷ s.n ∷ s.count ∷ []) ≡ gives (b ∷ t.n ∷ t.count ∷ []) → (a ≡ b) × (s ≡ t)
-section_same a b s t e =
-    let z : ◌≡◌ {A = List ℕ} (a ∷ s.n ∷ s.count ∷ []) (b ∷ t.n ∷ t.count ∷ []) = ap (λ (x : Reply). x.values) e in
+kinds_apart : (a b : Kind) → kind_number a ≡ kind_number b → a ≡ b
+kinds_apart (Clauses Dnf) (Clauses Dnf) e = refl
+kinds_apart (Clauses Dnf) (Clauses Cnf) e = absurd (omega (arith, e))
+kinds_apart (Clauses Dnf) Table e = absurd (omega (arith, e))
+kinds_apart (Clauses Cnf) (Clauses Dnf) e = absurd (omega (arith, e))
+kinds_apart (Clauses Cnf) (Clauses Cnf) e = refl
+kinds_apart (Clauses Cnf) Table e = absurd (omega (arith, e))
+kinds_apart Table (Clauses Dnf) e = absurd (omega (arith, e))
+kinds_apart Table (Clauses Cnf) e = absurd (omega (arith, e))
+kinds_apart Table Table e = refl
+
+sections_apart : (s t : Section) → section_words s ≡ section_words t → s ≡ t
+sections_apart s t e =
+    let z : ◌≡◌ {A = List ℕ} (kind_number s.kind ∷ s.n ∷ s.count ∷ []) (kind_number t.kind ∷ t.n ∷ t.count ∷ []) = e in
+    let a : kind_number s.kind ≡ kind_number t.kind = cc in
     let n : s.n ≡ t.n = cc in
     let k : s.count ≡ t.count = cc in
-    (cc, λ i. record { n = n i; count = k i })
+    λ i. record { kind = kinds_apart s.kind t.kind a i; n = n i; count = k i }
 
-pub sheet_one : OneToOne sheet_reply
-unfolding sheet_reply
-sheet_one (Dnf s) (Dnf t) e = ap Dnf (section_same 1 1 s t e).1
-sheet_one (Dnf s) (Cnf t) e = absurd (omega (arith, (section_same 1 2 s t e).0))
-sheet_one (Dnf s) (Table t) e = absurd (omega (arith, (section_same 1 3 s t e).0))
-sheet_one (Dnf s) (Refused r) e = no-values r _ _ (sym e)
-sheet_one (Cnf s) (Dnf t) e = absurd (omega (arith, (section_same 2 1 s t e).0))
-sheet_one (Cnf s) (Cnf t) e = ap Cnf (section_same 2 2 s t e).1
-sheet_one (Cnf s) (Table t) e = absurd (omega (arith, (section_same 2 3 s t e).0))
-sheet_one (Cnf s) (Refused r) e = no-values r _ _ (sym e)
-sheet_one (Table s) (Dnf t) e = absurd (omega (arith, (section_same 3 1 s t e).0))
-sheet_one (Table s) (Cnf t) e = absurd (omega (arith, (section_same 3 2 s t e).0))
-sheet_one (Table s) (Table t) e = ap Table (section_same 3 3 s t e).1
-sheet_one (Table s) (Refused r) e = no-values r _ _ (sym e)
-sheet_one (Refused r) (Dnf t) e = no-values r _ _ e
-sheet_one (Refused r) (Cnf t) e = no-values r _ _ e
-sheet_one (Refused r) (Table t) e = no-values r _ _ e
-sheet_one (Refused r) (Refused q) e = ap Refused (refusal-single r q e)
+pub sheet_one : OneToOne (reply_of section_words)
+sheet_one = reply-one section_words sections_apart
 
 -- ---- the clauses of a section
 module _ (n count : ℕ) (words : List ℕ) where
@@ -163,8 +162,8 @@ module _ (bytes clauses nodes : List ℕ) where
     )
 
 -- each call has one possible answer; its buffers have equations of their own
-pub sheet_single : (bytes clauses nodes : List ℕ) → Single sheet_reply (reads_sheet bytes clauses nodes)
-sheet_single bytes clauses nodes = single sheet_reply sheet_one (reads_sheet bytes clauses nodes)
+pub sheet_single : (bytes clauses nodes : List ℕ) → Single (reply_of section_words) (reads_sheet bytes clauses nodes)
+sheet_single bytes clauses nodes = single (reply_of section_words) sheet_one (reads_sheet bytes clauses nodes)
 
 -- a section that is read has at most 60 marks
 pub marks-few : (bytes clauses nodes : List ℕ) (k n : ℕ) (vs : List ℕ) (outs : List (List ℕ)) → reads_sheet bytes clauses nodes ≡ answered (k ∷ n ∷ vs) outs → n ≤ max_marks

@@ -1,47 +1,54 @@
 -- The reader's verdict by kind, and what a call leaves.
-use mathlib.Core.Path.{◌≡◌, refl, sym, ap, ap₂, subst, ◌∙◌}
+use mathlib.Core.Path.{◌≡◌, refl, sym, ap, ap₂, ◌∙◌}
 use mathlib.Core.Logic.{◌≢◌}
 use mathlib.Core.Bool.{Bool, true, false, cond}
 use mathlib.Core.List.{List, [], ◌∷◌}
 use Prim.Native.Nat.{ℕ, ◌+◌, ◌*◌, ◌-◌, ◌<◌, ◌≤◌}
 use native.Mathlib.Omega.{arith}
-use lib.ListN.{length, take}
+use borrow.Rule.Slice.PartMut.{put_mid}
+use lib.ListN.{length, take, replicate}
+use Rattle.std.proofs.Common.{rules}
+use Rattle.std.proofs.lemmas.Grind.{common_steps}
+use Rattle.refusal.proofs.Zeroing.{zeroed}
 use borrow.Author.Tests.{eq-eqb, ne_eqb, lt-ltb, le-ltb}
 use Rattle.theory.specs.Words.{stride}
-use Rattle.refusal.specs.Number.{order, LIMIT, SHORT, CLAUSE, CLAUSES, SHEET}
+use Rattle.std.specs.Prelude.{Result, Ok, Err}
+use Rattle.refusal.specs.Number.{order, SHEET, CLAUSES, number_of}
+use Rattle.refusal.specs.Told.{reply_of}
 use Rattle.refusal.specs.Limits.{max_nodes, max_clauses}
-use Rattle.refusal.specs.Buffers.{padded, zeroing, buffer_after, output_after}
-use Rattle.refusal.specs.Verdict.{Verdict, refused, answered, Finding, first_of, tried, judged, replied, gives, refused_with}
+use Rattle.refusal.specs.Buffers.{padded, zeroing, buffer_after}
+use Rattle.refusal.specs.Verdict.{Verdict, refused, answered, Finding, first_of, tried, judged, replied, gives}
 use Rattle.refusal.specs.declared.Refusal.{Refusal}
-use Rattle.refusal.proofs.Judged.{Quiet, refused_quiet, passes}
-use Rattle.table.specs.declared.BddPointer.{BddPointer}
-use Rattle.table.specs.declared.Inspection.{Inspection}
-use Rattle.table.specs.declared.Inspection.TheVariants as inspection
-use Rattle.table.specs.Inspection.{inspection_reply, refusal_in, over_limit, too_short, root_of, roots}
+use Rattle.refusal.specs.declared.RefusalKind.TheVariants as kind
+use Rattle.refusal.proofs.Judged.{Quiet, refused_quiet, passes, judged-either}
+use Rattle.refusal.proofs.Single.{no_values}
+use mathlib.Core.Logic.{inl, inr}
+use Rattle.table.specs.Inspection.{over_limit, too_short, root_of}
 use Rattle.table.proofs.InspectLaws.{within, long}
-use Rattle.table.proofs.AdmissionLaws.{admission_refused, admission_clean}
+use Rattle.entries.specs.declared.Form.{Form}
+use Rattle.entries.specs.Entries.{says}
 use Rattle.builders.specs.Builders.{over_list}
 use Rattle.builders.proofs.ListLaws.{listed}
 use Rattle.sheet.specs.declared.Header.{Header}
-use Rattle.sheet.specs.declared.SheetRead.{SheetRead}
-use Rattle.sheet.specs.declared.SheetRead.TheVariants.{Table, Refused}
-use Rattle.sheet.specs.Sheet.{sheet_reply, header_bytes, clause_bytes, misplaced, clause_words, node_bytes, decode_header, headless, clauses_misplaced, nodes_misplaced, node_words, first_malformed, clause_findings, node_findings, clause_kind, holds_clauses, kind_findings, gives_clauses, gives_table, gives_section, reads_sheet, Outcome, Headed, Giving}
+use Rattle.sheet.specs.declared.Kind.TheVariants.{Clauses, Table}
+use Rattle.sheet.specs.declared.Section.{Section}
+use Rattle.sheet.specs.Sheet.{section_words, header_bytes, clause_bytes, misplaced, clause_words, node_bytes, decode_header, headless, clauses_misplaced, nodes_misplaced, node_words, clause_findings, node_findings, clause_kind, holds_clauses, kind_findings, gives_clauses, gives_table, gives_section, reads_sheet, Outcome, Headed, Giving}
 use Rattle.sheet.proofs.HeaderLaws.{placed, whole}
 
 -- ---- outcomes
 -- a refusal that touches nothing
-pub untouched : (v : Verdict) (r : Refusal) (clauses nodes : List ℕ) → v ≡ refused r.number r.place → zeroing r.number ≡ false → Outcome v (Refused r) clauses clauses nodes nodes
-unfolding sheet_reply replied buffer_after
+pub untouched : (v : Verdict) (r : Refusal) (clauses nodes : List ℕ) → v ≡ refused (number_of r.kind) r.place → zeroing (number_of r.kind) ≡ false → Outcome v (Err r) clauses clauses nodes nodes
+unfolding replied buffer_after
 untouched v r clauses nodes e q = rw e (record { reply = refl; list = rw q; table = rw q })
 
 -- CLAUSES in the buffers
 pub cleared : (v : Verdict) (p : ℕ) (clauses clauses' nodes nodes' : List ℕ) → v ≡ refused CLAUSES p → clauses' ≡ padded [] (length clauses) → nodes' ≡ padded [] (length nodes)
-    → Outcome v (Refused (record { number = CLAUSES; place = p })) clauses clauses' nodes nodes'
-unfolding sheet_reply replied buffer_after zeroing
+    → Outcome v (Err (record { kind = kind.Clauses; place = p })) clauses clauses' nodes nodes'
+unfolding replied buffer_after zeroing
 cleared v p clauses clauses' nodes nodes' e a b = rw e (record { reply = refl; list = a; table = b })
 
 -- an answer in the buffers
-pub written : (v : Verdict) (r : SheetRead) (vs list table clauses clauses' nodes nodes' : List ℕ) → v ≡ answered vs (list ∷ table ∷ []) → sheet_reply r ≡ gives vs
+pub written : (v : Verdict) (r : Result Section Refusal) (vs list table clauses clauses' nodes nodes' : List ℕ) → v ≡ answered vs (list ∷ table ∷ []) → reply_of section_words r ≡ gives vs
     → clauses' ≡ padded list (length clauses) → nodes' ≡ padded table (length nodes) → Outcome v r clauses clauses' nodes nodes'
 unfolding replied buffer_after
 written v r vs list table clauses clauses' nodes nodes' e s a b = rw e (record { reply = s; list = a; table = b })
@@ -88,14 +95,21 @@ module _ (bytes clauses nodes : List ℕ) where
         reads_kind ∙ rw (ne_eqb h.kind 1 a, ne_eqb h.kind 2 b, ne_eqb h.kind 3 c) (sheet_first true [] _)
 
 -- ---- the admission's answer
-module _ (v section : Verdict) (fs : List Finding) (is : v ≡ judged fs section) (count : ℕ) (a : Inspection) (e : inspection_reply a ≡ replied (judged fs (root_of count))) where
-  pub section_refused : Quiet fs → (r q : Refusal) → a ≡ inspection.Refused r → q ≡ refusal_in a → (clauses nodes : List ℕ) → Outcome v (Refused q) clauses clauses nodes nodes
-  section_refused quiet r q is-r is-q clauses nodes =
-      let stays = admission_refused fs count a e r q is-r is-q in
-      untouched v q clauses nodes (is ∙ stays section) (refused_quiet [] [] q.number q.place fs quiet (stays (answered [] [])))
+module _ (v section : Verdict) (fs : List Finding) (is : v ≡ judged fs section) where
+  pub section_refused : Quiet fs → (r : Refusal) → ((u : Verdict) → judged fs u ≡ refused (number_of r.kind) r.place) → (a : Result Section Refusal) → a ≡ Err r → (clauses nodes : List ℕ) → Outcome v a clauses clauses nodes nodes
+  section_refused quiet r stays a e clauses nodes =
+      rw e (untouched v r clauses nodes (is ∙ stays section) (refused_quiet [] [] (number_of r.kind) r.place fs quiet (stays (answered [] []))))
 
-  pub section_given : (p : BddPointer) → a ≡ inspection.Sound p → (r : SheetRead) (clauses clauses' nodes nodes' : List ℕ) → Outcome section r clauses clauses' nodes nodes' → Outcome v r clauses clauses' nodes nodes'
-  section_given p is-p r clauses clauses' nodes nodes' o = rw (is ∙ (admission_clean fs count a e p is-p).0 section) o
+  pub section_given : judged fs section ≡ section → (r : Result Section Refusal) (clauses clauses' nodes nodes' : List ℕ) → Outcome section r clauses clauses' nodes nodes' → Outcome v r clauses clauses' nodes nodes'
+  section_given goes r clauses clauses' nodes nodes' o = rw (is ∙ goes) o
+
+-- what one answer passed, every other passes
+pub answer_stays : (fs : List Finding) (v : Verdict) (root : ℕ) (u : Verdict) → gives (root ∷ []) ≡ replied (judged fs v) → judged fs u ≡ u
+unfolding replied
+answer_stays fs v root u e = elim (judged-either fs) [
+  | inl clean ↦ clean u
+  | inr c ↦ no_values c.number c.place root [] (sym (e ∙ ap replied (c.always v)))
+]
 
 pub clauses_quiet : (h : Header) (bytes : List ℕ) → Quiet (clause_findings h bytes)
 unfolding Quiet zeroing
@@ -111,51 +125,16 @@ pub section_long : (h : Header) (bytes : List ℕ) → Headed bytes h → (each 
 section_long h bytes headed each count offset other other_offset e =
     omega (arith, (placed each count offset other other_offset h.total e).total-is, (whole bytes headed.whole).total-is, ap (λ (x : Header). x.total) headed.header)
 
--- ---- a section of clauses, test by test
-over-marks : (n count : ℕ) → 60 < n → true ≡ over_list n count
-unfolding over_list
-over-marks n count h = rw (lt-ltb 60 n h)
-
-over-count : (n count : ℕ) → n ≤ 60 → 1024 < count → true ≡ over_list n count
-unfolding over_list
-over-count n count m h = rw (le-ltb 60 n m, lt-ltb 1024 count h)
-
 pub not-over : (n count : ℕ) → n ≤ 60 → count ≤ 1024 → false ≡ over_list n count
 unfolding over_list
 not-over n count m h = rw (le-ltb 60 n m, le-ltb 1024 count h)
 
-module _ (h : Header) (bytes : List ℕ) where
-  pub clauses-misplaced : true ≡ clauses_misplaced h → refused_with SHEET 0 ≡ replied (judged (clause_findings h bytes) (root_of 1))
-  unfolding judged tried order first_of replied
-  clauses-misplaced e = rw (← e)
-
-  module _ (placed : false ≡ clauses_misplaced h) where
-    limit-refuses : true ≡ over_list h.n h.clause_count → refused_with LIMIT 0 ≡ replied (judged (clause_findings h bytes) (root_of 1))
-    unfolding judged tried order first_of replied
-    limit-refuses e = rw (← placed, ← e)
-
-    pub marks_refuse : 60 < h.n → refused_with LIMIT 0 ≡ replied (judged (clause_findings h bytes) (root_of 1))
-    marks_refuse m = limit-refuses (over-marks _ _ m)
-
-    pub count-refuses : h.n ≤ 60 → 1024 < h.clause_count → refused_with LIMIT 0 ≡ replied (judged (clause_findings h bytes) (root_of 1))
-    count-refuses m k = limit-refuses (over-count _ _ m k)
-
-    module _ (marks : h.n ≤ 60) (few : h.clause_count ≤ 1024) (bad : ℕ) (is : bad ≡ first_malformed h bytes) where
-      pub clause-refuses : bad < h.clause_count → refused_with CLAUSE bad ≡ replied (judged (clause_findings h bytes) (root_of 1))
-      unfolding judged tried order first_of replied
-      clause-refuses lt =
-          rw is (rw (← placed, ← (not-over h.n h.clause_count marks few), lt-ltb (first_malformed h bytes) h.clause_count (subst (λ (x : ℕ). x < h.clause_count) is lt)))
-
-      pub clauses_pass : h.clause_count ≤ bad → gives (0 ∷ []) ≡ replied (judged (clause_findings h bytes) (root_of 1))
-      unfolding judged tried order first_of replied
-      clauses_pass le =
-          rw (← placed, ← (not-over h.n h.clause_count marks few), le-ltb (first_malformed h bytes) h.clause_count (subst (λ (x : ℕ). h.clause_count ≤ x) is le))
-
-  pub clauses_giving : Headed bytes h → (a : Inspection) → inspection_reply a ≡ replied (judged (clause_findings h bytes) (root_of 1)) → (p : BddPointer) → a ≡ inspection.Sound p
-      → Giving h h.clause_count max_clauses clause_bytes bytes
+-- ---- a section that passed its tests
+module _ (h : Header) (bytes : List ℕ) (headed : Headed bytes h) where
+  pub clauses_giving : ((v : Verdict) → judged (clause_findings h bytes) v ≡ v) → Giving h h.clause_count max_clauses clause_bytes bytes
   unfolding judged tried order first_of
-  clauses_giving headed a e p is-p =
-      let v : gives (0 ∷ []) ≡ replied (judged (clause_findings h bytes) (root_of 1)) = unfold replied in sym (ap replied ((admission_clean (clause_findings h bytes) 1 a e p is-p).0 (root_of 1))) in
+  clauses_giving goes =
+      let v : gives (0 ∷ []) ≡ replied (judged (clause_findings h bytes) (root_of 1)) = unfold replied in sym (ap replied (goes (root_of 1))) in
       let p₁ : (clauses_misplaced h ≡ false) × (gives (0 ∷ []) ≡ replied _) = passes _ _ _ _ _ _ v in
       let p₂ : (over_list h.n h.clause_count ≡ false) × (gives (0 ∷ []) ≡ replied _) = passes _ _ _ _ _ _ p₁.1 in
       let l = listed h.n h.clause_count (sym p₂.0) in
@@ -165,76 +144,41 @@ module _ (h : Header) (bytes : List ℕ) where
         long = section_long h bytes headed _ _ _ _ _ (sym p₁.0);
       }
 
--- ---- a section of nodes, test by test
-over-table : (n count : ℕ) → 60 < n → true ≡ over_limit n count
-unfolding over_limit
-over-table n count h = rw (lt-ltb 60 n h)
-
-module _ (h : Header) (bytes nodes : List ℕ) where
-  pub nodes-misplaced : true ≡ nodes_misplaced h → refused_with SHEET 0 ≡ replied (judged (node_findings h bytes nodes) (root_of h.node_count))
-  unfolding judged tried order first_of replied
-  nodes-misplaced e = rw (← e)
-
-  module _ (placed : false ≡ nodes_misplaced h) where
-    pub table-limit : true ≡ over_limit h.n h.node_count → refused_with LIMIT 0 ≡ replied (judged (node_findings h bytes nodes) (root_of h.node_count))
-    unfolding judged tried order first_of replied
-    table-limit e = rw (← placed, ← e)
-
-    pub table-marks : 60 < h.n → refused_with LIMIT 0 ≡ replied (judged (node_findings h bytes nodes) (root_of h.node_count))
-    table-marks m = table-limit (over-table _ _ m)
-
-    module _ (limit : false ≡ over_limit h.n h.node_count) where
-      pub table-short : true ≡ too_short h.node_count nodes → refused_with SHORT 0 ≡ replied (judged (node_findings h bytes nodes) (root_of h.node_count))
-      unfolding judged tried order first_of replied
-      table-short e = rw (← placed, ← limit, ← e)
-
-      pub table-decides : false ≡ too_short h.node_count nodes → replied (roots h.n h.node_count (node_words h bytes)) ≡ replied (judged (node_findings h bytes nodes) (root_of h.node_count))
-      unfolding judged tried order first_of
-      table-decides e = rw (← placed, ← limit, ← e)
-
-  pub nodes-ready : Headed bytes h → false ≡ nodes_misplaced h → false ≡ over_limit h.n h.node_count
-      → (1 ≤ h.node_count) × (h.node_count ≤ max_nodes) × (32 + node_bytes * h.node_count ≤ length bytes)
-  nodes-ready headed e limit = ((within _ _ limit).some, (within _ _ limit).few, section_long h bytes headed _ _ _ _ _ e)
-
-  pub nodes_giving : Headed bytes h → (a : Inspection) → inspection_reply a ≡ replied (judged (node_findings h bytes nodes) (root_of h.node_count)) → (p : BddPointer) → a ≡ inspection.Sound p
-      → Giving h h.node_count max_nodes node_bytes bytes × (stride * h.node_count ≤ length nodes)
+  pub nodes_giving : (nodes : List ℕ) (root : ℕ) → gives (root ∷ []) ≡ replied (judged (node_findings h bytes nodes) (root_of h.node_count)) → Giving h h.node_count max_nodes node_bytes bytes × (stride * h.node_count ≤ length nodes)
   unfolding judged tried order first_of
-  nodes_giving headed a e p is-p =
-      let v : gives ((h.node_count - 1) ∷ []) ≡ replied (judged (node_findings h bytes nodes) (root_of h.node_count)) = unfold replied in sym (ap replied ((admission_clean (node_findings h bytes nodes) h.node_count a e p is-p).0 (root_of h.node_count))) in
-      let p₁ : (nodes_misplaced h ≡ false) × (gives ((h.node_count - 1) ∷ []) ≡ replied _) = passes _ _ _ _ _ _ v in
-      let p₂ : (over_limit h.n h.node_count ≡ false) × (gives ((h.node_count - 1) ∷ []) ≡ replied _) = passes _ _ _ _ _ _ p₁.1 in
-      let p₃ : (too_short h.node_count nodes ≡ false) × (gives ((h.node_count - 1) ∷ []) ≡ replied _) = passes _ _ _ _ _ _ p₂.1 in
+  nodes_giving nodes root v =
+      let p₁ : (nodes_misplaced h ≡ false) × (gives (root ∷ []) ≡ replied _) = passes _ _ _ _ _ _ v in
+      let p₂ : (over_limit h.n h.node_count ≡ false) × (gives (root ∷ []) ≡ replied _) = passes _ _ _ _ _ _ p₁.1 in
+      let p₃ : (too_short h.node_count nodes ≡ false) × (gives (root ∷ []) ≡ replied _) = passes _ _ _ _ _ _ p₂.1 in
       let l = within h.n h.node_count (sym p₂.0) in
       (record { marks = l.marks; few = l.few; long = section_long h bytes headed _ _ _ _ _ (sym p₁.0) }, long _ _ (sym p₃.0))
 
 -- ---- the section in its output
-module _ (h : Header) (bytes clauses clauses' nodes nodes' : List ℕ) where
-  pub give_over : length clauses < 2 * h.clause_count → clauses' ≡ padded [] (length clauses) → nodes' ≡ padded [] (length nodes)
-      → Outcome (gives_clauses h bytes clauses) (Refused (record { number = CLAUSES; place = h.clause_count })) clauses clauses' nodes nodes'
+all_zeros : (k : ℕ) (z : List ℕ) → z ≡ replicate k 0 → z ≡ padded [] k
+unfolding padded
+all_zeros k z e = grind (rules, common_steps, e)
+
+module _ (h : Header) (bytes clauses nodes nodes' : List ℕ) where
+  pub give_over : length clauses < 2 * h.clause_count → (clauses' : List ℕ) → clauses' ≡ replicate (length clauses) 0 → nodes' ≡ replicate (length nodes) 0
+      → Outcome (gives_clauses h bytes clauses) (Err (record { kind = kind.Clauses; place = h.clause_count })) clauses clauses' nodes nodes'
   unfolding judged tried order first_of
-  give_over lt a b = cleared _ h.clause_count clauses clauses' nodes nodes' (rw (lt-ltb (length clauses) (2 * h.clause_count) lt)) a b
+  give_over lt clauses' a b = cleared _ h.clause_count clauses clauses' nodes nodes' (rw (lt-ltb (length clauses) (2 * h.clause_count) lt)) (all_zeros _ _ a) (all_zeros _ _ b)
 
-  pub give_clauses_lem : 2 * h.clause_count ≤ length clauses → (filled : List ℕ) → take (2 * h.clause_count) filled ≡ clause_words h bytes → length filled ≡ length clauses
-      → clauses' ≡ padded (take (2 * h.clause_count) filled) (length filled) → nodes' ≡ padded [] (length nodes)
-      → (dnf : Bool) → h.kind ≡ clause_kind dnf → (r : SheetRead) → sheet_reply r ≡ gives (clause_kind dnf ∷ h.n ∷ h.clause_count ∷ []) → Outcome (gives_clauses h bytes clauses) r clauses clauses' nodes nodes'
+  pub give_clauses_lem : 2 * h.clause_count ≤ length clauses → (filled zeros : List ℕ) → take (2 * h.clause_count) filled ≡ clause_words h bytes → length filled ≡ length clauses
+      → zeros ≡ replicate (length filled - 2 * h.clause_count) 0 → nodes' ≡ replicate (length nodes) 0 → (form : Form) → h.kind ≡ clause_kind (says form)
+      → Outcome (gives_clauses h bytes clauses) (Ok (record { kind = Clauses form; n = h.n; count = h.clause_count })) clauses (put_mid (2 * h.clause_count) (length filled - 2 * h.clause_count) filled zeros) nodes nodes'
   unfolding judged tried order first_of
-  give_clauses_lem le filled is same a b dnf kind r s =
-      written _ r (h.kind ∷ h.n ∷ h.clause_count ∷ []) (clause_words h bytes) [] clauses clauses' nodes nodes' (rw (le-ltb (length clauses) (2 * h.clause_count) le))
-      (s ∙ ap (λ k. gives (k ∷ h.n ∷ h.clause_count ∷ [])) (sym kind)) (a ∙ ap₂ padded is same) b
+  give_clauses_lem le filled zeros is same z b form k =
+      written _ _ (h.kind ∷ h.n ∷ h.clause_count ∷ []) (clause_words h bytes) [] clauses _ nodes nodes' (rw (le-ltb (length clauses) (2 * h.clause_count) le))
+      (ap (λ x. gives (x ∷ h.n ∷ h.clause_count ∷ [])) (sym k)) (zeroed _ filled zeros (omega (arith, le, same)) z ∙ ap₂ padded is same) (all_zeros _ _ b)
 
-  pub give_table_lem : (filled : List ℕ) → take (stride * h.node_count) filled ≡ node_words h bytes → length filled ≡ length nodes
-      → nodes' ≡ padded (take (stride * h.node_count) filled) (length filled) → clauses' ≡ padded [] (length clauses)
-      → Outcome (gives_table h bytes) (Table (record { n = h.n; count = h.node_count })) clauses clauses' nodes nodes'
-  unfolding sheet_reply
-  give_table_lem filled is same a b =
-      written _ _ (3 ∷ h.n ∷ h.node_count ∷ []) [] (node_words h bytes) clauses clauses' nodes nodes' refl refl b (a ∙ ap₂ padded is same)
+pub give_table_lem : (h : Header) (bytes clauses clauses' nodes filled zeros : List ℕ) → stride * h.node_count ≤ length nodes → take (stride * h.node_count) filled ≡ node_words h bytes → length filled ≡ length nodes
+    → zeros ≡ replicate (length filled - stride * h.node_count) 0 → clauses' ≡ replicate (length clauses) 0
+    → Outcome (gives_table h bytes) (Ok (record { kind = Table; n = h.n; count = h.node_count })) clauses clauses' nodes (put_mid (stride * h.node_count) (length filled - stride * h.node_count) filled zeros)
+give_table_lem h bytes clauses clauses' nodes filled zeros le is same z b =
+    written _ _ (3 ∷ h.n ∷ h.node_count ∷ []) [] (node_words h bytes) clauses clauses' nodes _ refl refl (all_zeros _ _ b) (zeroed _ filled zeros (omega (arith, le, same)) z ∙ ap₂ padded is same)
 
--- ---- the three equations
-pub three : (v : Verdict) (r : SheetRead) (clauses clauses' nodes nodes' : List ℕ) → Outcome v r clauses clauses' nodes nodes'
-    → (sheet_reply r ≡ replied v) × ((clauses' ≡ output_after 0 v clauses) × (nodes' ≡ output_after 1 v nodes))
-three v r clauses clauses' nodes nodes' o = (o.reply, (o.list, o.table))
-
-pub none : (v : Verdict) (r : SheetRead) (clauses nodes : List ℕ) → v ≡ refused SHEET 0 → r ≡ Refused (record { number = SHEET; place = 0 })
-    → (sheet_reply r ≡ replied v) × ((clauses ≡ output_after 0 v clauses) × (nodes ≡ output_after 1 v nodes))
+-- ---- no sheet
+pub none : (v : Verdict) (clauses nodes : List ℕ) → v ≡ refused SHEET 0 → Outcome v (Err (record { kind = kind.Sheet; place = 0 })) clauses clauses nodes nodes
 unfolding zeroing
-none v r clauses nodes e is = three v r clauses clauses nodes nodes (rw is (untouched v (record { number = SHEET; place = 0 }) clauses nodes e refl))
+none v clauses nodes e = untouched v (record { kind = kind.Sheet; place = 0 }) clauses nodes e refl

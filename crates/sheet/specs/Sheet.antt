@@ -1,16 +1,20 @@
 -- What the reader answers, for any bytes at all.
-use Rattle.std.specs.Prelude.{◌≡◌, Bool, true, false, cond, not, ◌||◌, List, [], ◌∷◌, ℕ, ◌+◌, ◌*◌, ◌≤◌, eqb, ltb, length}
+use Rattle.std.specs.Prelude.{◌≡◌, Bool, true, false, cond, not, ◌||◌, List, [], ◌∷◌, ℕ, ◌+◌, ◌*◌, ◌≤◌, eqb, ltb, length, Result}
 use Rattle.theory.specs.Words.{stride}
 use Rattle.refusal.specs.Number.{LIMIT, SHORT, CLAUSE, CLAUSES, SHEET}
 use Rattle.refusal.specs.Limits.{max_marks}
 use Rattle.refusal.specs.Buffers.{output_after}
-use Rattle.refusal.specs.Verdict.{Reply, gives, refusal_reply, Finding, finding, Verdict, answered, judged, replied}
+use Rattle.refusal.specs.Told.{reply_of}
+use Rattle.refusal.specs.Verdict.{Finding, finding, Verdict, answered, judged, replied}
+use Rattle.refusal.specs.declared.Refusal.{Refusal}
 use Rattle.table.specs.Inspection.{over_limit, too_short, not_ordered}
+use Rattle.entries.specs.Entries.{says}
 use Rattle.builders.specs.Builders.{over_list, first_bad_entry}
 use Rattle.sheet.specs.Bytes.{le_word, le_words}
 use Rattle.sheet.specs.declared.Header.{Header}
-use Rattle.sheet.specs.declared.SheetRead.{SheetRead}
-use Rattle.sheet.specs.declared.SheetRead.TheVariants.{Dnf, Cnf, Table, Refused}
+use Rattle.sheet.specs.declared.Kind.{Kind}
+use Rattle.sheet.specs.declared.Kind.TheVariants.{Clauses, Table}
+use Rattle.sheet.specs.declared.Section.{Section}
 
 -- the kinds of sheet; 4 to 15 are reserved
 abbrev pub dnf_kind : ℕ
@@ -22,12 +26,17 @@ cnf_kind = 2
 abbrev pub table_kind : ℕ
 table_kind = 3
 
--- a section's reply: its kind, n and its count
-unfoldable pub sheet_reply : SheetRead → Reply
-sheet_reply (Dnf s) = gives (dnf_kind ∷ s.n ∷ s.count ∷ [])
-sheet_reply (Cnf s) = gives (cnf_kind ∷ s.n ∷ s.count ∷ [])
-sheet_reply (Table s) = gives (table_kind ∷ s.n ∷ s.count ∷ [])
-sheet_reply (Refused r) = refusal_reply r
+abbrev pub clause_kind : Bool → ℕ
+clause_kind true = dnf_kind
+clause_kind false = cnf_kind
+
+abbrev pub kind_number : Kind → ℕ
+kind_number (Clauses f) = clause_kind (says f)
+kind_number Table = table_kind
+
+-- a section's values: its kind, n and its count
+abbrev pub section_words : Section → List ℕ
+section_words s = kind_number s.kind ∷ s.n ∷ s.count ∷ []
 
 -- the bytes of the header, of a clause and of a node
 abbrev pub header_bytes : ℕ
@@ -99,10 +108,6 @@ node_findings h bytes nodes =
     ∷ not_ordered h.n h.node_count (node_words h bytes)
     ∷ []
 
-abbrev pub clause_kind : Bool → ℕ
-clause_kind true = dnf_kind
-clause_kind false = cnf_kind
-
 abbrev pub holds_clauses : ℕ → Bool
 holds_clauses kind = eqb kind dnf_kind || eqb kind cnf_kind
 
@@ -132,8 +137,8 @@ unfoldable pub reads_sheet : List ℕ → List ℕ → List ℕ → Verdict
 reads_sheet bytes clauses nodes = judged (sheet_findings bytes nodes) (gives_section (decode_header bytes) bytes clauses)
 
 -- what a call leaves, as its verdict says
-pub record Outcome (v : Verdict) (r : SheetRead) (clauses clauses' nodes nodes' : List ℕ) : Type 0 where
-  pub reply : sheet_reply r ≡ replied v
+pub record Outcome (v : Verdict) (r : Result Section Refusal) (clauses clauses' nodes nodes' : List ℕ) : Type 0 where
+  pub reply : reply_of section_words r ≡ replied v
   pub list : clauses' ≡ output_after 0 v clauses
   pub table : nodes' ≡ output_after 1 v nodes
 

@@ -1,6 +1,6 @@
 -- The admission of the short list's entry, test by test.
 use mathlib.Core.Path.{◌≡◌, refl, sym}
-use mathlib.Core.Bool.{true, false}
+use mathlib.Core.Bool.{false}
 use mathlib.Core.List.{List, [], ◌∷◌}
 use Prim.Native.Nat.{ℕ, ◌+◌, ◌*◌, ◌-◌, ◌≤◌, max}
 use native.Mathlib.Omega.{arith}
@@ -9,14 +9,14 @@ use Rattle.refusal.specs.Limits.{max_marks, max_nodes, deep_work}
 use lib.Dec.{ltb}
 use lib.ListN.{length}
 use borrow.Author.Tests.{ltb-false}
-use Rattle.refusal.specs.Number.{order, LIMIT, SHORT}
+use Rattle.refusal.specs.Number.{order}
 use Rattle.refusal.specs.Buffers.{zeroing}
-use Rattle.refusal.specs.Verdict.{first_of, tried, judged, replied, refused_with, gives}
+use Rattle.refusal.specs.Verdict.{first_of, tried, judged, replied, gives}
 use Rattle.refusal.proofs.Judged.{Clean, Quiet, passes}
 use Rattle.table.specs.declared.BddPointer.{BddPointer}
 use Rattle.table.specs.declared.Inspection.{Inspection}
 use Rattle.table.specs.declared.Inspection.TheVariants.{Sound}
-use Rattle.table.specs.Inspection.{inspection_reply, over_limit, too_short, roots, root_of}
+use Rattle.table.specs.Inspection.{inspection_reply, over_limit, too_short, root_of, SoundTable}
 use Rattle.table.proofs.AdmissionLaws.{admission_clean, sound-table}
 use Rattle.making.specs.Room.{over_room}
 use Rattle.making.proofs.RoomLaws.{roomy}
@@ -31,35 +31,12 @@ pub deep-fits : (widest n : ℕ) → widest ≤ max_nodes → n ≤ max_marks �
 deep-fits widest n h k = omega (arith, mul-le-mul_left {m = n + 2} {n = 62} (24 * widest) (omega arith))
 
 module _ (n count : ℕ) (words : List ℕ) (room : ℕ) (work : List ℕ) where
-  pub short-limit : true ≡ over_limit n count → refused_with LIMIT 0 ≡ replied (judged (short_findings n count words room work) (root_of count))
-  unfolding judged tried order first_of replied
-  short-limit e = rw (← e)
-
-  module _ (limit : false ≡ over_limit n count) where
-    pub short-room : true ≡ over_room room → refused_with LIMIT 0 ≡ replied (judged (short_findings n count words room work) (root_of count))
-    unfolding judged tried order first_of replied
-    short-room e = rw (← limit, ← e)
-
-    module _ (rooms : false ≡ over_room room) where
-      pub short-words : true ≡ too_short count words → refused_with SHORT 0 ≡ replied (judged (short_findings n count words room work) (root_of count))
-      unfolding judged tried order first_of replied
-      short-words e = rw (← limit, ← rooms, ← e)
-
-      module _ (short : false ≡ too_short count words) where
-        pub short_work_lem : true ≡ short_deep (max room count) n work → refused_with SHORT 0 ≡ replied (judged (short_findings n count words room work) (root_of count))
-        unfolding judged tried order first_of replied
-        short_work_lem e = rw (← limit, ← rooms, ← short, ← e)
-
-        pub short-decides : false ≡ short_deep (max room count) n work → replied (roots n count words) ≡ replied (judged (short_findings n count words room work) (root_of count))
-        unfolding judged tried order first_of
-        short-decides e = rw (← limit, ← rooms, ← short, ← e)
-
   pub short_quiet : Quiet (short_findings n count words room work)
   unfolding Quiet zeroing
   short_quiet = (refl, (refl, (refl, (refl, (refl, tt)))))
 
   -- admitted
-  pub short_admitted : (a : Inspection) → inspection_reply a ≡ replied (judged (short_findings n count words room work) (root_of count)) → (p : BddPointer) → a ≡ Sound p → Shortening n count words p.0 room work
+  pub short_admitted : (a : Inspection) → inspection_reply a ≡ replied (judged (short_findings n count words room work) (root_of count)) → (p : BddPointer) → a ≡ Sound p → SoundTable n count words p.0 × Shortening n count room work
   unfolding judged tried order first_of short_deep
   short_admitted a e p is =
       let c : Clean (judged (short_findings n count words room work)) × (p.0 ≡ count - 1) = admission_clean (short_findings n count words room work) count a e p is in
@@ -67,9 +44,7 @@ module _ (n count : ℕ) (words : List ℕ) (room : ℕ) (work : List ℕ) where
       let p₁ : (over_limit n count ≡ false) × (gives ((count - 1) ∷ []) ≡ replied _) = passes _ _ _ _ _ _ v in
       let p₂ : (over_room room ≡ false) × (gives ((count - 1) ∷ []) ≡ replied _) = passes _ _ _ _ _ _ p₁.1 in
       let p₃ : (too_short count words ≡ false) × (gives ((count - 1) ∷ []) ≡ replied _) = passes _ _ _ _ _ _ p₂.1 in
-      let p₄ : (ltb (length work) (deep_work (max room count) n) ≡ false) × (gives ((count - 1) ∷ []) ≡ replied _) = passes _ _ _ _ _ _ p₃.1 in
-      record {
-        table = sound-table n count words p.0 (sym p₁.0) (sym p₃.0) (passes _ _ _ _ _ _ p₄.1).0 c.1;
-        rooms = roomy room (sym p₂.0);
-        long = ltb-false _ _ p₄.0;
-      }
+      let p₄ : (ltb (length work) (deep_work (max room count) n) ≡ false) × (gives ((count - 1) ∷ []) ≡ replied _) = passes _ _ _ _ _ _ p₃.1 in (
+        sound-table n count words p.0 (sym p₁.0) (sym p₃.0) (passes _ _ _ _ _ _ p₄.1).0 c.1,
+        record { rooms = roomy room (sym p₂.0); long = ltb-false _ _ p₄.0 },
+      )

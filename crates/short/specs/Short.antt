@@ -1,17 +1,18 @@
 -- What the short list's entry answers, for any words at all.
-use Rattle.std.specs.Prelude.{Bool, not, List, [], ◌∷◌, ◌++◌, ℕ, ◌≤◌, max, ltb, length}
+use Rattle.std.specs.Prelude.{Bool, not, List, [], ◌∷◌, ◌++◌, ℕ, ◌≤◌, max, ltb, length, Result}
 use Rattle.theory.specs.Tree.{Tree}
 use Rattle.theory.specs.Table.{meaning}
 use Rattle.theory.specs.Words.{nodes}
 use Rattle.refusal.specs.Limits.{deep_work}
 use Rattle.refusal.specs.Number.{LIMIT, SHORT, NODES}
 use Rattle.refusal.specs.Verdict.{Finding, finding, Verdict}
-use Rattle.table.specs.Inspection.{table_findings, SoundTable}
+use Rattle.table.specs.Inspection.{table_findings}
 use Rattle.making.specs.Room.{over_room}
 use Rattle.making.proofs.RoomLaws.{Roomy}
 use Rattle.rule.specs.Rule.{short_list, short_fits}
 use Rattle.listing.specs.Listed.{over_clauses, lists, Leaves}
-use Rattle.listing.specs.declared.Written.{Written}
+use Rattle.refusal.specs.declared.Refusal.{Refusal}
+use Rattle.refusal.specs.declared.RefusalKind.{RefusalKind}
 
 -- SHORT: work too small
 unfoldable pub short_deep : ℕ → ℕ → List ℕ → Bool
@@ -32,10 +33,13 @@ lists_short n count words room out work =
     lists (short_findings n count words room work) (short_overs n room (meaning n (nodes count words)) out) (short_list n (meaning n (nodes count words)))
 
 -- what the core asks and leaves
-pub record Shortening (n count : ℕ) (words : List ℕ) (root room : ℕ) (work : List ℕ) : Type 0 where
-  pub table : SoundTable n count words root
+pub record Shortening (n count room : ℕ) (work : List ℕ) : Type 0 where
   pub rooms : Roomy room
   pub long : deep_work (max room count) n ≤ length work
 
-abbrev pub ListsShort : ℕ → ℕ → List ℕ → ℕ → List ℕ → List ℕ → Written → Type 0
+abbrev pub ListsShort : ℕ → ℕ → List ℕ → ℕ → List ℕ → List ℕ → Result ℕ Refusal → Type 0
 ListsShort n count words room out out' written = Leaves (short_overs n room (meaning n (nodes count words)) out) (short_list n (meaning n (nodes count words))) out' written
+
+-- a refusal with place 0
+abbrev pub over : RefusalKind → Refusal
+over kind = record { kind = kind; place = 0 }

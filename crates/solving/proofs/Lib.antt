@@ -1,4 +1,3 @@
 pub mod PushLaws
-pub mod PartLaws
 pub mod RunLaws
 pub mod SolveLaws

@@ -1,6 +1,6 @@
 -- Evaluation, test by test and step by step.
 use mathlib.Core.Path.{◌≡◌, sym, ap, ◌∙◌}
-use mathlib.Core.Bool.{true, false, not, ◌&&◌, true≢false}
+use mathlib.Core.Bool.{true, not, ◌&&◌, true≢false}
 use mathlib.Core.List.{List}
 use Prim.Native.Nat.{ℕ, zero, suc, ◌+◌, ◌-◌, ◌/◌, ◌^◌, ◌≤◌, ◌<◌}
 use native.Mathlib.Omega.{arith}
@@ -21,12 +21,10 @@ use Rattle.theory.proofs.Step.{mark-le}
 use Rattle.theory.proofs.Cases.{says-look}
 use Rattle.theory.proofs.Levels.{node_says, node_says-level, node_says-step, node_says_bottom}
 use Rattle.theory.proofs.Words.{at-nodes, length-nodes}
-use Rattle.refusal.specs.Number.{order, LIMIT, SHORT, VARIABLE}
 use Rattle.refusal.specs.Limits.{max_marks, case_bits}
-use Rattle.refusal.specs.Verdict.{first_of, tried, judged, replied, refused_with}
 use Rattle.refusal.proofs.Firsts.{first-is}
-use Rattle.table.specs.Inspection.{over_limit, too_short, roots, SoundTable}
-use Rattle.table.specs.Case.{over_case, lowest_over, admits_case, table_says, child_for}
+use Rattle.table.specs.Inspection.{SoundTable}
+use Rattle.table.specs.Case.{over_case, lowest_over, table_says, child_for}
 
 -- the part of a case from n up is 0 exactly if no bit stands there
 high_part : (n case : ℕ) → 2 ^ n ≤ case → 0 < case / 2 ^ n
@@ -74,33 +72,6 @@ module _ (n case : ℕ) (over : true ≡ over_case n case) (fits : case < 2 ^ ca
   pub lowest_is : n + count_trailing_zeros case_bits (case / 2 ^ n) ≡ lowest_over n case
   unfolding lowest_over z
   lowest_is = sym (first-is _ case_bits (n + z) lowest_within unset_below (rw (le-leb n (n + z) (omega arith), set_there)))
-
--- the tests in turn
-module _ (n count : ℕ) (w : List ℕ) (case : ℕ) where
-  pub limit-refuses-case : true ≡ over_limit n count → refused_with LIMIT 0 ≡ replied (admits_case n count w case)
-  unfolding admits_case judged tried order first_of replied
-  limit-refuses-case e = rw (← e)
-
-  module _ (within : false ≡ over_limit n count) where
-    pub short-refuses-case : true ≡ too_short count w → refused_with SHORT 0 ≡ replied (admits_case n count w case)
-    unfolding admits_case judged tried order first_of replied
-    short-refuses-case e = rw (← within, ← e)
-
-    module _ (long : false ≡ too_short count w) where
-      pub variable_refuses : true ≡ over_case n case → (place : ℕ) → place ≡ lowest_over n case → refused_with VARIABLE place ≡ replied (admits_case n count w case)
-      unfolding admits_case judged tried order first_of replied
-      variable_refuses e place at = rw (← within, ← long, ← e, at)
-
-      pub table-decides-case : false ≡ over_case n case → replied (roots n count w) ≡ replied (admits_case n count w case)
-      unfolding admits_case judged tried order first_of replied
-      table-decides-case e = rw (← within, ← long, ← e)
-
--- the way that a case takes
-pub high_for : (x : Node) (case v r : ℕ) → v ≡ x.mark → true ≡ bit v case → r ≡ x.high → r ≡ child_for x case
-high_for x case v r e b h = rw (← e, ← b) h
-
-pub low_for : (x : Node) (case v r : ℕ) → v ≡ x.mark → false ≡ bit v case → r ≡ x.low → r ≡ child_for x case
-low_for x case v r e b h = rw (← e, ← b) h
 
 module _ (n : ℕ) (s : Table) (o : Ordered n s) where
   -- a constant says what its number is

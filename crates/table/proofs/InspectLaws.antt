@@ -1,21 +1,23 @@
 -- Inspection, test by test.
 use mathlib.Core.Path.{◌≡◌, refl, sym}
 use mathlib.Core.Bool.{Bool, true, false, ◌||◌}
-use mathlib.Core.List.{List, [], ◌∷◌}
-use Prim.Native.Nat.{ℕ, ◌*◌, ◌-◌, ◌≤◌, ◌<◌}
+use mathlib.Core.List.{List}
+use Prim.Native.Nat.{ℕ, ◌*◌, ◌≤◌}
 use native.Mathlib.Omega.{arith}
 use lib.Dec.{ltb}
 use lib.ListN.{length}
-use borrow.Author.Tests.{lt-ltb, le-ltb, ltb-false}
+use borrow.Author.Tests.{ltb-false}
 use Rattle.theory.specs.Table.{node_ok, Ordered}
 use Rattle.theory.specs.Words.{stride, nodes}
 use Rattle.theory.proofs.Ordering.{ordered_of_ok, ok_of_ordered}
 use Rattle.theory.proofs.Words.{length-nodes}
-use Rattle.refusal.specs.Number.{order, LIMIT, SHORT, TABLE}
 use Rattle.refusal.specs.Limits.{max_marks, max_nodes}
-use Rattle.refusal.specs.Verdict.{first_of, tried, judged, replied, refused_with, gives}
 use Rattle.refusal.proofs.Firsts.{first-before, first-none}
-use Rattle.table.specs.Inspection.{over_limit, too_short, first_bad, roots, inspects}
+use Rattle.std.specs.Prelude.{Result, Ok, Err}
+use Rattle.refusal.specs.Told.{reply_of}
+use Rattle.refusal.specs.declared.Refusal.{Refusal}
+use Rattle.table.specs.declared.BddPointer.{BddPointer}
+use Rattle.table.specs.Inspection.{pointer, inspection_reply, inspected, over_limit, too_short, first_bad}
 
 pub or_false : (a b : Bool) → false ≡ a || b → (false ≡ a) × (false ≡ b)
 or_false true b e = (e, sym (true_b b e))
@@ -54,25 +56,7 @@ module _ (n count : ℕ) (w : List ℕ) where
   unfolding first_bad
   bad_none o = first-none (node_ok n (nodes count w)) count (λ j k. ok_of_ordered n (nodes count w) o j (omega (arith, length-nodes count w)))
 
-  -- the table's own test
-  pub bad_refuses : first_bad n count w < count → refused_with TABLE (first_bad n count w) ≡ replied (roots n count w)
-  unfolding judged tried order first_of replied
-  bad_refuses h = rw (lt-ltb _ _ h)
-
-  pub sound-answers : count ≤ first_bad n count w → gives ((count - 1) ∷ []) ≡ replied (roots n count w)
-  unfolding judged tried order first_of replied
-  sound-answers h = rw (le-ltb _ _ h)
-
-  -- inspection's tests in turn
-  pub limit-refuses : true ≡ over_limit n count → refused_with LIMIT 0 ≡ replied (inspects n count w)
-  unfolding inspects judged tried order first_of replied
-  limit-refuses e = rw (← e)
-
-  module _ (within : false ≡ over_limit n count) where
-    pub short-refuses : true ≡ too_short count w → refused_with SHORT 0 ≡ replied (inspects n count w)
-    unfolding inspects judged tried order first_of replied
-    short-refuses e = rw (← within, ← e)
-
-    pub table-decides : false ≡ too_short count w → replied (roots n count w) ≡ replied (inspects n count w)
-    unfolding inspects judged tried order first_of replied
-    table-decides e = rw (← within, ← e)
+pub inspected_reply : (r : Result BddPointer Refusal) → inspection_reply (inspected r) ≡ reply_of pointer r
+unfolding inspection_reply
+inspected_reply (Ok p) = refl
+inspected_reply (Err q) = refl

@@ -5,3 +5,4 @@ pub mod AdmissionLaws
 pub mod InspectionSingle
 pub mod Inspected
 pub mod Evaluated
+pub mod TableLaws

@@ -1,5 +1,5 @@
 -- What inspection and evaluation answer, for any words at all.
-use Rattle.std.specs.Prelude.{◌≡◌, Bool, ◌||◌, List, [], ◌∷◌, ℕ, ◌*◌, ◌-◌, ◌≤◌, ltb, length}
+use Rattle.std.specs.Prelude.{◌≡◌, Bool, ◌||◌, List, [], ◌∷◌, ℕ, ◌*◌, ◌-◌, ◌≤◌, ltb, length, Result, Ok, Err}
 use Rattle.theory.specs.Table.{node_ok, Ordered}
 use Rattle.theory.specs.Words.{stride, nodes}
 use Rattle.refusal.specs.Number.{LIMIT, SHORT, TABLE}
@@ -7,18 +7,29 @@ use Rattle.refusal.specs.Limits.{max_marks, max_nodes}
 use Rattle.refusal.specs.First.{first_failing}
 use Rattle.refusal.specs.Verdict.{Reply, gives, refusal_reply, Finding, finding, Verdict, answered, judged}
 use Rattle.refusal.specs.declared.Refusal.{Refusal}
+use Rattle.table.specs.declared.BddPointer.{BddPointer}
 use Rattle.table.specs.declared.Inspection.{Inspection}
 use Rattle.table.specs.declared.Inspection.TheVariants.{Sound, Refused}
 
+abbrev pub pointer : BddPointer → List ℕ
+pointer p = p.0 ∷ []
+
 -- a sound table's reply is its root
 unfoldable pub inspection_reply : Inspection → Reply
-inspection_reply (Sound p) = gives (p.0 ∷ [])
+inspection_reply (Sound p) = gives (pointer p)
 inspection_reply (Refused r) = refusal_reply r
 
--- the refusal in an answer; none in a sound table's
-abbrev pub refusal_in : Inspection → Refusal
-refusal_in (Sound p) = record { number = 0; place = 0 }
-refusal_in (Refused r) = r
+abbrev pub IsRefused : Inspection → Type 0
+IsRefused (Sound p) = ⊥
+IsRefused (Refused r) = Unit {0}
+
+abbrev pub refused_by : Refusal → Inspection
+refused_by r = Refused r
+
+-- what the tests answer, as inspection's form
+abbrev pub inspected : Result BddPointer Refusal → Inspection
+inspected (Ok p) = Sound p
+inspected (Err r) = Refused r
 
 -- LIMIT: over 60 marks, or a table count outside 1..4096
 unfoldable pub over_limit : ℕ → ℕ → Bool

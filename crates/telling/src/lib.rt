@@ -1,49 +1,75 @@
 // What a replay tells: the lines that differ, the calls of each entry, the totals. Inner.
 #![tactic(auto)]
 
-const LINE_END: u8 = 10;
+ghost use Rattle.std.specs.Prelude.{◌≤◌, length};
 
-pub fn one_more(number: u64) -> u64 {
-    std::num::wrapping_add_u64(number, 1)
+use std::fmt;
+use std::fmt::Write;
+
+// Text at the front of a lent buffer; what no longer fits is let go.
+#[derive(Drop)]
+pub struct Text<'a> {
+    out: &'a mut [u8],
+    len: usize,
+    ghost fits: { len ≤ length out.now },
 }
 
-pub fn count_entry(counts: &mut [u64], entry: u64) {
-    let at = lines::to_usize(entry);
-    if at < counts.len() {
-        counts[at] = one_more(counts[at]);
+impl Write for Text<'_> {
+    fn write_str(&mut self, s: &str) -> fmt::Result {
+        for byte in s.as_bytes() {
+            if self.len < self.out.len() {
+                self.out[self.len] = *byte;
+                self.len += 1;
+            }
+        }
+        Ok(())
     }
 }
 
-pub fn put_difference(out: &mut [u8], at: usize, line: u64, entry: u64) -> usize {
-    let named = lines::put_bytes(out, at, b"line ");
-    let numbered = lines::put_number(out, named, line);
-    let of_entry = lines::put_bytes(out, numbered, b" differs: entry ");
-    let whole = lines::put_number(out, of_entry, entry);
-    lines::put_byte(out, whole, LINE_END)
-}
+// One more than the greatest number that is told whole.
+const BILLION: u64 = 1000000000;
 
-fn put_count(out: &mut [u8], at: usize, entry: u64, calls: u64) -> usize {
-    let named = lines::put_bytes(out, at, b"entry ");
-    let numbered = lines::put_number(out, named, entry);
-    let colon = lines::put_bytes(out, numbered, b": ");
-    let whole = lines::put_number(out, colon, calls);
-    lines::put_byte(out, whole, LINE_END)
-}
+// A number; where it has more than nine digits, the last nine.
+#[derive(Clone, Copy)]
+struct Told(u64);
 
-pub fn put_counts(out: &mut [u8], at: usize, counts: &[u64]) -> usize {
-    let mut next = at;
-    let mut i: usize = 0;
-    while i < counts.len() {
-        next = put_count(out, next, i as u64, counts[i]);
-        i += 1;
+impl fmt::Display for Told {
+    fn fmt<W: Write>(&self, f: &mut fmt::Formatter<W>) -> fmt::Result {
+        let number = self.0;
+        if number < BILLION {
+            return write!(f, "{number}");
+        }
+        let last = number % BILLION;
+        write!(f, "{last:09}")
     }
-    next
 }
 
-pub fn put_total(out: &mut [u8], at: usize, calls: u64, differ: u64) -> usize {
-    let counted = lines::put_number(out, at, calls);
-    let replayed = lines::put_bytes(out, counted, b" calls replayed, ");
-    let differing = lines::put_number(out, replayed, differ);
-    let whole = lines::put_bytes(out, differing, b" differ");
-    lines::put_byte(out, whole, LINE_END)
+impl<'a> Text<'a> {
+    pub fn new(out: &'a mut [u8]) -> Text<'a> {
+        Text { out, len: 0 }
+    }
+
+    pub fn len(&self) -> usize {
+        self.len
+    }
+
+    pub fn put_difference(&mut self, line: u64, entry: u64) -> fmt::Result {
+        writeln!(self, "line {} differs: entry {}", Told(line), Told(entry))
+    }
+
+    pub fn put_counts(&mut self, counts: &[u64]) -> fmt::Result {
+        for (entry, calls) in counts.iter().enumerate() {
+            writeln!(self, "entry {entry}: {}", Told(*calls))?;
+        }
+        Ok(())
+    }
+
+    pub fn put_total(&mut self, calls: u64, differ: u64) -> fmt::Result {
+        writeln!(
+            self,
+            "{} calls replayed, {} differ",
+            Told(calls),
+            Told(differ)
+        )
+    }
 }

@@ -1,39 +1,14 @@
 -- Literals cleared from the clauses in the output, one clause after another.
 use mathlib.Core.Path.{◌≡◌, refl, sym, ap, ap₂, ◌∙◌}
-use mathlib.Core.Logic.{◌≢◌}
-use mathlib.Core.Bool.{Bool, true, false, cond, beq}
+use mathlib.Core.Bool.{Bool}
 use mathlib.Core.List.{List, [], ◌∷◌, map}
-use Prim.Native.Nat.{ℕ, zero, suc, ◌+◌, ◌*◌, ◌≤◌, ◌<◌}
+use Prim.Native.Nat.{ℕ, zero, suc, ◌+◌, ◌*◌, ◌<◌}
 use native.Mathlib.Omega.{arith}
-use lib.ListN.{length, take, set, get_or, length-set}
-use Rattle.theory.specs.Mask.{bit}
-use Rattle.theory.specs.Clause.{Clause, clause, unset_cell}
-use Rattle.theory.proofs.Truths.{beq_refl}
+use lib.ListN.{length, take, set, get_or}
+use Rattle.theory.specs.Clause.{Clause, clause}
 use Rattle.rule.specs.Rule.{cleared}
 use Rattle.listing.specs.Listed.{clause_words}
 use Rattle.trimming.specs.Trimming.{Says, cleared_to, Clears}
-
--- ---- one clause
-pub not-fixed : (x : ℕ) (b : Bool) (y : Clause) → bit x y.fixed ≡ false → y ≡ cleared x b y
-unfolding cleared
-not-fixed x b y e = rw e
-
-beq_not : (v b : Bool) → v ≢ b → beq v b ≡ false
-beq_not true true n = absurd (n refl)
-beq_not true false n = refl
-beq_not false true n = refl
-beq_not false false n = absurd (n refl)
-
-pub value-differs : (v b : Bool) → v ≡ false → b ≡ true → v ≢ b
-value-differs v b e d z = let y : ◌≡◌ {A = ℕ} 0 1 = ap (λ t. cond t 1 0) (sym e ∙ z ∙ d) in omega arith
-
-pub other-value : (x : ℕ) (b : Bool) (y : Clause) (f v : Bool) → f ≡ bit x y.fixed → f ≡ true → v ≡ bit x y.values → v ≢ b → y ≡ cleared x b y
-unfolding cleared
-other-value x b y f v ef t ev n = rw (sym ef ∙ t, beq_not (bit x y.values) b (λ e. n (ev ∙ e)))
-
-pub is-cleared : (x : ℕ) (b : Bool) (y : Clause) (f v : Bool) → f ≡ bit x y.fixed → f ≡ true → v ≡ bit x y.values → v ≡ b → unset_cell y x ≡ cleared x b y
-unfolding cleared
-is-cleared x b y f v ef t ev n = rw (sym ef ∙ t, ap (beq (bit x y.values)) (sym (sym ev ∙ n)) ∙ beq_refl (bit x y.values))
 
 -- ---- all of them
 twice : ℕ → ℕ
@@ -83,34 +58,28 @@ cleared-long x b (suc i) [] = refl
 cleared-long x b (suc i) (y ∷ ys) = ap suc (cleared-long x b i ys)
 
 -- the first i clauses are done
-pub record ClearInv (out₀ out : List ℕ) (k x : ℕ) (b : Bool) (i : ℕ) : Type 0 where
-  pub long : length out ≡ length out₀
-  pub upto : i ≤ k
-  pub done : (ys : List Clause) → Says out₀ k ys → Says out k (cleared_to x b i ys)
+abbrev pub Cleared : List ℕ → List ℕ → ℕ → ℕ → Bool → ℕ → Type 0
+Cleared out₀ out k x b i = (ys : List Clause) → Says out₀ k ys → Says out k (cleared_to x b i ys)
 
-pub clear_start : (out : List ℕ) (k x : ℕ) (b : Bool) → ClearInv out out k x b 0
+pub clear_start : (out : List ℕ) (k x : ℕ) (b : Bool) → Cleared out out k x b 0
 unfolding cleared_to
-clear_start out k x b = record { long = refl; upto = omega arith; done = λ ys s. s }
+clear_start out k x b ys s = s
 
-pub clear_next : (out₀ out : List ℕ) (k x : ℕ) (b : Bool) (i : ℕ) → i < k → ClearInv out₀ out k x b i → (z : Clause) → z ≡ cleared x b (clause (get_or out (2 * i) 0) (get_or out (2 * i + 1) 0))
-    → ClearInv out₀ (set (set out (2 * i) z.fixed) (2 * i + 1) z.values) k x b (i + 1)
-clear_next out₀ out k x b i h inv z d = record {
-  long = length-set (set out (2 * i) z.fixed) (2 * i + 1) z.values ∙ length-set out (2 * i) z.fixed ∙ inv.long;
-  upto = omega arith;
-  done = λ ys s.
-      let n : i + 1 ≡ suc i = omega arith in
-      let a : Says out k (cleared_to x b i ys) = inv.done ys s in
-      let c : z ≡ cleared x b (clause (get_or out (twice i) 0) (get_or out (suc (twice i)) 0)) = d ∙ ap₂ (λ u v. cleared x b (clause (get_or out u 0) (get_or out v 0))) (twice-is i) (next-is i) in
-      let t : take (twice k) out ≡ clause_words (cleared_to x b i ys) = ap (λ (u : ℕ). take u out) (sym (twice-is k)) ∙ a.words in
-      record {
-        number = ap (λ j. length (cleared_to x b j ys)) n ∙ cleared-long x b (suc i) ys ∙ s.number;
-        words = ap₂ (λ (u : ℕ) (v : List ℕ). take u v) (twice-is k) (ap₂ (λ (u v : ℕ). set (set out u z.fixed) v z.values) (twice-is i) (next-is i))
-            ∙ write_one x b i k out ys s.number h t z c ∙ ap (λ j. clause_words (cleared_to x b j ys)) (sym n);
-      };
-}
+pub clear_next : (out₀ out : List ℕ) (k x : ℕ) (b : Bool) (i : ℕ) → i < k → Cleared out₀ out k x b i → (z : Clause) → z ≡ cleared x b (clause (get_or out (2 * i) 0) (get_or out (2 * i + 1) 0))
+    → Cleared out₀ (set (set out (2 * i) z.fixed) (2 * i + 1) z.values) k x b (i + 1)
+clear_next out₀ out k x b i h done z d ys s =
+    let n : i + 1 ≡ suc i = omega arith in
+    let a : Says out k (cleared_to x b i ys) = done ys s in
+    let c : z ≡ cleared x b (clause (get_or out (twice i) 0) (get_or out (suc (twice i)) 0)) = d ∙ ap₂ (λ u v. cleared x b (clause (get_or out u 0) (get_or out v 0))) (twice-is i) (next-is i) in
+    let t : take (twice k) out ≡ clause_words (cleared_to x b i ys) = ap (λ (u : ℕ). take u out) (sym (twice-is k)) ∙ a.words in
+    record {
+      number = ap (λ j. length (cleared_to x b j ys)) n ∙ cleared-long x b (suc i) ys ∙ s.number;
+      words = ap₂ (λ (u : ℕ) (v : List ℕ). take u v) (twice-is k) (ap₂ (λ (u v : ℕ). set (set out u z.fixed) v z.values) (twice-is i) (next-is i))
+          ∙ write_one x b i k out ys s.number h t z c ∙ ap (λ j. clause_words (cleared_to x b j ys)) (sym n);
+    }
 
-pub clear-done : (out₀ out : List ℕ) (k x : ℕ) (b : Bool) (i : ℕ) → k ≤ i → ClearInv out₀ out k x b i → Clears out₀ out k x b
-clear-done out₀ out k x b i h inv ys s =
-    let a : Says out k (cleared_to x b i ys) = inv.done ys s in
-    let e : cleared_to x b i ys ≡ map (cleared x b) ys = ap (λ j. cleared_to x b j ys) (let z : i ≡ length ys = omega (arith, inv.upto, s.number) in z) ∙ clear-end x b ys in
+pub clear-done : (out₀ out : List ℕ) (k x : ℕ) (b : Bool) (i : ℕ) → i ≡ k → Cleared out₀ out k x b i → Clears out₀ out k x b
+clear-done out₀ out k x b i h done ys s =
+    let a : Says out k (cleared_to x b i ys) = done ys s in
+    let e : cleared_to x b i ys ≡ map (cleared x b) ys = ap (λ j. cleared_to x b j ys) (let z : i ≡ length ys = omega (arith, s.number) in z) ∙ clear-end x b ys in
     record { number = ap length (sym e) ∙ a.number; words = a.words ∙ ap clause_words e }

@@ -11,23 +11,18 @@ use Rattle.theory.specs.Clause.{Clause, WellFormed, malformed}
 use Rattle.theory.proofs.Clauses.{formed}
 use Rattle.refusal.specs.Number.{order, VARIABLE, CLAUSE}
 use Rattle.refusal.specs.Limits.{max_marks}
-use Rattle.refusal.specs.Verdict.{Verdict, first_of, tried, judged, Reply, replied, refused_with, gives, refusal_reply}
-use Rattle.refusal.specs.declared.Refusal.{Refusal}
+use Rattle.refusal.specs.Verdict.{Verdict, first_of, tried, judged, Reply, replied, refused_with, gives}
 use Rattle.valuation.specs.Valuation.{of_one, of_mark, of_two, of_list, first_bad_mark, checked}
 
 -- a check that passed did not refuse
-passed : (r : Refusal) (k p : ℕ) → refusal_reply r ≡ refused_with (suc k) p → r.number ≡ 0 → ⊥
-passed r k p e h = omega (arith, ap (λ (x : Reply). x.number) e)
+passed : (k p : ℕ) → gives [] ≡ refused_with (suc k) p → ⊥
+passed k p e = omega (arith, ap (λ (x : Reply). x.number) e)
 
 -- ---- one valuation
 
 pub one_bad : (c : Clause) → malformed max_marks c.fixed c.values ≡ true → refused_with CLAUSE 0 ≡ replied (checked (of_one c))
 unfolding judged tried first_of order replied
 one_bad c e = rw e
-
-pub one-good : (c : Clause) → malformed max_marks c.fixed c.values ≡ false → gives [] ≡ replied (checked (of_one c))
-unfolding judged tried first_of order replied
-one-good c e = rw e
 
 -- ---- one valuation and a mark
 
@@ -49,10 +44,6 @@ pub two-second : (c d : Clause) → malformed max_marks c.fixed c.values ≡ fal
 unfolding judged tried first_of order replied
 two-second c d e f = rw (e, f)
 
-pub two_good : (c d : Clause) → malformed max_marks c.fixed c.values ≡ false → malformed max_marks d.fixed d.values ≡ false → gives [] ≡ replied (checked (of_two c d))
-unfolding judged tried first_of order replied
-two_good c d e f = rw (e, f)
-
 -- ---- a list of values
 
 pub list_bad : (ws : List ℕ) (v : Verdict) → first_bad_mark ws < length ws → refused_with VARIABLE (first_bad_mark ws) ≡ replied (judged (of_list ws) v)
@@ -65,32 +56,32 @@ list-good ws v h = rw (le-ltb (first_bad_mark ws) (length ws) h)
 
 -- ---- after a check that passed
 
-pub one-formed : (c : Clause) (r : Refusal) → refusal_reply r ≡ replied (checked (of_one c)) → r.number ≡ 0 → WellFormed max_marks c
-one-formed c r e h = (elim (malformed max_marks c.fixed c.values) as (λ b. malformed max_marks c.fixed c.values ≡ b → WellFormed max_marks c) [
-  | true ↦ λ t. absurd (passed r 3 0 (e ∙ sym (one_bad c t)) h)
+pub one_formed : (c : Clause) → gives [] ≡ replied (checked (of_one c)) → WellFormed max_marks c
+one_formed c e = (elim (malformed max_marks c.fixed c.values) as (λ b. malformed max_marks c.fixed c.values ≡ b → WellFormed max_marks c) [
+  | true ↦ λ t. absurd (passed 3 0 (e ∙ sym (one_bad c t)))
   | false ↦ λ t. formed max_marks c t
 ]) refl
 
-pub mark-below : (c : Clause) (m : ℕ) (r : Refusal) → refusal_reply r ≡ replied (checked (of_mark c m)) → r.number ≡ 0 → m < max_marks
-mark-below c m r e h = elim (dec_lt m max_marks) [
+pub mark_below : (c : Clause) (m : ℕ) → gives [] ≡ replied (checked (of_mark c m)) → m < max_marks
+mark_below c m e = elim (dec_lt m max_marks) [
   | yes d ↦ d
-  | no d ↦ absurd (passed r 2 m (e ∙ sym (mark_bad c m (omega arith))) h)
+  | no d ↦ absurd (passed 2 m (e ∙ sym (mark_bad c m (omega arith))))
 ]
 
-pub mark-formed : (c : Clause) (m : ℕ) (r : Refusal) → refusal_reply r ≡ replied (checked (of_mark c m)) → r.number ≡ 0 → WellFormed max_marks c
-mark-formed c m r e h = one-formed c r (e ∙ sym (mark-good c m (mark-below c m r e h))) h
+pub mark_formed : (c : Clause) (m : ℕ) → gives [] ≡ replied (checked (of_mark c m)) → WellFormed max_marks c
+mark_formed c m e = one_formed c (e ∙ sym (mark-good c m (mark_below c m e)))
 
-pub mark-fits : (c : Clause) (m : ℕ) (r : Refusal) → refusal_reply r ≡ replied (checked (of_mark c m)) → r.number ≡ 0 → m < 64
-mark-fits c m r e h = omega (arith, mark-below c m r e h)
+pub mark_fits : (c : Clause) (m : ℕ) → gives [] ≡ replied (checked (of_mark c m)) → m < 64
+mark_fits c m e = omega (arith, mark_below c m e)
 
-pub two_formed : (c d : Clause) (r : Refusal) → refusal_reply r ≡ replied (checked (of_two c d)) → r.number ≡ 0 → WellFormed max_marks c × WellFormed max_marks d
-two_formed c d r e h = (elim (malformed max_marks c.fixed c.values) as (λ b. malformed max_marks c.fixed c.values ≡ b → WellFormed max_marks c × WellFormed max_marks d) [
-  | true ↦ λ t. absurd (passed r 3 0 (e ∙ sym (two-first c d t)) h)
+pub two_formed : (c d : Clause) → gives [] ≡ replied (checked (of_two c d)) → WellFormed max_marks c × WellFormed max_marks d
+two_formed c d e = (elim (malformed max_marks c.fixed c.values) as (λ b. malformed max_marks c.fixed c.values ≡ b → WellFormed max_marks c × WellFormed max_marks d) [
+  | true ↦ λ t. absurd (passed 3 0 (e ∙ sym (two-first c d t)))
   | false ↦ λ t. (formed max_marks c t, second t)
 ]) refl
   where
     second : malformed max_marks c.fixed c.values ≡ false → WellFormed max_marks d
     second t = (elim (malformed max_marks d.fixed d.values) as (λ b. malformed max_marks d.fixed d.values ≡ b → WellFormed max_marks d) [
-      | true ↦ λ s. absurd (passed r 3 1 (e ∙ sym (two-second c d t s)) h)
+      | true ↦ λ s. absurd (passed 3 1 (e ∙ sym (two-second c d t s)))
       | false ↦ λ s. formed max_marks d s
     ]) refl

@@ -9,17 +9,20 @@ use native.Mathlib.Decide.{dec_lt}
 use lib.Dec.{ltb}
 use lib.ListN.{length, get_or, drop, drop_of_length-le}
 use lib.Seq.{drop-cons}
-use borrow.Author.Count.{below_more}
-use borrow.Author.Tests.{lt-ltb, le-ltb, ltb-true}
+use borrow.Author.Tests.{le-ltb, ltb-true, ltb-false}
 use Rattle.theory.specs.Mask.{odd}
 use Rattle.theory.specs.Clause.{empty_clause, set_cell, gather}
 use Rattle.refusal.specs.Limits.{max_marks}
 use Rattle.refusal.proofs.Firsts.{first-le, first-is, first-none, first-before}
 use Rattle.refusal.specs.Number.{VARIABLE}
-use Rattle.refusal.specs.Verdict.{Reply, replied, refused_with, answered, judged}
+use Rattle.refusal.specs.Told.{refuse_if}
+use Rattle.refusal.specs.declared.Refusal.{Refusal}
+use Rattle.refusal.specs.declared.RefusalKind.TheVariants.{Variable}
+use Rattle.refusal.proofs.Judged.{test_passed, test_refused}
+use Rattle.std.specs.Prelude.{Ok, Err}
+use Rattle.refusal.specs.Verdict.{Reply, replied, refusal_reply, refused_with, gives, answered, judged}
 use Rattle.valuation.specs.Valuation.{clause_of, first_bad_mark, of_list, says_clause, gathers_values}
-use Rattle.valuation.specs.Replies.{updated_reply}
-use Rattle.valuation.specs.declared.Updated.TheVariants.{Valuation, Refused}
+use Rattle.valuation.specs.Replies.{both_words}
 use Rattle.valuation.proofs.Checks.{list_bad, list-good}
 use Rattle.valuation.specs.declared.BddPartialValuation.{BddPartialValuation}
 
@@ -27,12 +30,6 @@ use Rattle.valuation.specs.declared.BddPartialValuation.{BddPartialValuation}
 pub record Passed (ws : List ℕ) (i : ℕ) : Type 0 where
   pub within : i ≤ length ws
   pub good : (j : ℕ) → j < i → ltb (get_or ws j 0 / 2) max_marks ≡ true
-
-pub passed_none : (ws : List ℕ) → Passed ws 0
-passed_none ws = record { within = omega arith; good = λ j d. absurd (let z : ⊥ = omega arith in z) }
-
-pub passed-next : {ws : List ℕ} {i : ℕ} → Passed ws i → i < length ws → get_or ws i 0 / 2 < max_marks → Passed ws (i + 1)
-passed-next {ws} {i} p l h = record { within = omega arith; good = below_more _ _ p.good (lt-ltb (get_or ws i 0 / 2) max_marks h) }
 
 pub bad_here : {ws : List ℕ} {i : ℕ} → Passed ws i → i < length ws → max_marks ≤ get_or ws i 0 / 2 → i ≡ first_bad_mark ws
 unfolding first_bad_mark
@@ -96,13 +93,20 @@ gathered_all {ws} {v} {i} g l = sym rest ∙ g.fold
 
 -- ---- the answers of from_values
 
-pub bad_refuses : (ws : List ℕ) (p : ℕ) → p ≡ first_bad_mark ws → p < length ws → updated_reply (Refused (record { number = VARIABLE; place = p })) ≡ replied (gathers_values ws)
-unfolding updated_reply gathers_values
-bad_refuses ws p e h = ap (refused_with VARIABLE) e ∙ list_bad ws _ (rw e at h)
+module _ (ws : List ℕ) (p : ℕ) (at : p ≡ first_bad_mark ws) where
+  pub bad_refuses : (r : Refusal) → Err r ≡ refuse_if (ltb p (length ws)) Variable p → refusal_reply r ≡ replied (gathers_values ws)
+  unfolding gathers_values
+  bad_refuses r e =
+      let t : (ltb p (length ws) ≡ true) × (r ≡ record { kind = Variable; place = p }) = test_refused _ _ _ r e in
+      ap refusal_reply t.1 ∙ ap (refused_with VARIABLE) at ∙ list_bad ws _ (omega (arith, at, ltb-true _ _ t.0))
 
-pub none_bad : (ws : List ℕ) (p : ℕ) → p ≡ first_bad_mark ws → length ws ≤ p → first_bad_mark ws ≡ length ws
-none_bad ws p e h = omega (arith, bad_le ws)
+  module _ (x : Unit {0}) (e : Ok x ≡ refuse_if (ltb p (length ws)) Variable p) where
+    past : length ws ≤ p
+    past = ltb-false _ _ (test_passed _ _ _ x e)
 
-pub gathered_answer : (ws : List ℕ) (p : ℕ) (v : BddPartialValuation) → p ≡ first_bad_mark ws → length ws ≤ p → clause_of v ≡ gather empty_clause ws → updated_reply (Valuation v) ≡ replied (gathers_values ws)
-unfolding updated_reply gathers_values replied
-gathered_answer ws p v e h q = ap (λ d. replied (says_clause d)) q ∙ ap replied (sym (list-good ws _ (omega arith)))
+    pub none_bad : first_bad_mark ws ≡ length ws
+    none_bad = omega (arith, at, past, bad_le ws)
+
+    pub gathered_answer : (v : BddPartialValuation) → clause_of v ≡ gather empty_clause ws → gives (both_words v) ≡ replied (gathers_values ws)
+    unfolding gathers_values replied
+    gathered_answer v q = ap (λ d. replied (says_clause d)) q ∙ ap replied (sym (list-good ws _ (omega (arith, none_bad))))

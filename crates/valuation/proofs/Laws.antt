@@ -19,13 +19,12 @@ use Rattle.theory.proofs.Gathers.{MarksBelow, gather-last, gather-formed, entrie
 use Rattle.theory.proofs.Truths.{and_true}
 use Rattle.refusal.specs.Number.{order}
 use Rattle.refusal.specs.Limits.{max_marks}
-use Rattle.refusal.specs.Verdict.{Verdict, answered, Finding, first_of, tried, judged, replied, refusal_reply}
-use Rattle.refusal.specs.declared.Refusal.{Refusal}
+use Rattle.refusal.specs.Verdict.{Verdict, answered, Finding, first_of, tried, judged, replied, gives}
 use Rattle.refusal.proofs.Firsts.{first-none}
 use Rattle.refusal.proofs.Judged.{judged-answer}
 use Rattle.valuation.specs.Valuation.{of_one, of_mark, of_two, of_list, first_bad_mark, says_truth, says_clause, says_cell, says_entries, same_words}
 use Rattle.valuation.specs.Valuation.{asks_empty, gathers_values, lists_values, gets_value, asks_value, sets_value, unsets_value, asks_extends, asks_equal}
-use Rattle.valuation.proofs.Checks.{one-formed, mark-below, mark-formed, two_formed, list-good}
+use Rattle.valuation.proofs.Checks.{one_formed, mark_below, mark_formed, two_formed, list-good}
 use Rattle.valuation.proofs.Answers.{cell-none}
 use Rattle.valuation.proofs.OneToOne.{digit-single}
 use Rattle.valuation.proofs.Gathering.{passed-all, all-below}
@@ -49,10 +48,7 @@ unfolding judged tried first_of order
 two-clear c d w v u = rw (not-malformed max_marks c w, not-malformed max_marks d v)
 
 -- a check that finds nothing
-abbrev no_refusal : Refusal
-no_refusal = record { number = 0; place = 0 }
-
-clear_check : (fs : List Finding) → Clear fs → refusal_reply no_refusal ≡ replied (judged fs (answered [] []))
+clear_check : (fs : List Finding) → Clear fs → gives [] ≡ replied (judged fs (answered [] []))
 unfolding replied
 clear_check fs clear = sym (ap replied (clear (answered [] [])))
 
@@ -93,7 +89,7 @@ record Known (c : Clause) (m : ℕ) : Type 0 where
 
 known : (c : Clause) (m : ℕ) → Clear (of_mark c m) → Known c m
 known c m clear =
-    record { below = mark-below c m no_refusal (clear_check (of_mark c m) clear) refl; formed = mark-formed c m no_refusal (clear_check (of_mark c m) clear) refl }
+    record { below = mark_below c m (clear_check (of_mark c m) clear); formed = mark_formed c m (clear_check (of_mark c m) clear) }
 
 module _ (c d : Clause) (m : ℕ) (o : Option Bool) (e : puts c m o ≡ says_clause d) where
   clear : Clear (of_mark c m)
@@ -232,7 +228,7 @@ listed c ws e = judged-answer (of_one c) (says_entries (entries_of max_marks c))
 pub from_after_to : (c : Clause) (ws : List ℕ) → lists_values c ≡ says_entries ws → gathers_values ws ≡ says_clause c
 unfolding lists_values
 from_after_to c ws e =
-    let w : WellFormed max_marks c = one-formed c no_refusal (clear_check (of_one c) (listed c ws e)) refl in
+    let w : WellFormed max_marks c = one_formed c (clear_check (of_one c) (listed c ws e)) in
     let same : entries_of max_marks c ≡ ws = entries_is (entries_of max_marks c) ws (sym (listed c ws e (says_entries (entries_of max_marks c))) ∙ e) in
     ap gathers_values (sym same) ∙ gathers_all (entries_of max_marks c) (entries_below max_marks max_marks c (omega arith)) ∙ ap says_clause (from_entries max_marks c w)
 
@@ -267,7 +263,7 @@ last_leaves ws w k c d p q h =
 -- ---- extends is an order, and eq is equality of all cells
 
 two-known : (c d : Clause) → Clear (of_two c d) → WellFormed max_marks c × WellFormed max_marks d
-two-known c d clear = two_formed c d no_refusal (clear_check (of_two c d) clear) refl
+two-known c d clear = two_formed c d (clear_check (of_two c d) clear)
 
 record Extends (c d : Clause) : Type 0 where
   first : WellFormed max_marks c

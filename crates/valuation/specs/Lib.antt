@@ -1,2 +1,3 @@
+pub mod Marks
 pub mod Valuation
 pub mod Replies

@@ -1,36 +1,48 @@
--- The specification's number, place and values for each answer of this crate.
-use Rattle.std.specs.Prelude.{cond, [], ◌∷◌, ℕ}
+-- The words of each answer of this crate, and the replies that are more than words.
+use Rattle.std.specs.Prelude.{cond, List, [], ◌∷◌, ℕ, suc, Option, Result, Ok, Err}
+use Rattle.refusal.specs.Number.{number_of}
+use Rattle.refusal.specs.Limits.{max_marks}
 use Rattle.refusal.specs.Buffers.{padded}
 use Rattle.refusal.specs.Verdict.{Verdict, refused, answered, Reply, gives, refusal_reply}
+use Rattle.refusal.specs.Told.{optional}
+use Rattle.refusal.specs.declared.Refusal.{Refusal}
+use Rattle.valuation.specs.declared.BddVariable.{BddVariable}
+use Rattle.valuation.specs.declared.BddPartialValuation.{BddPartialValuation}
+use Rattle.valuation.specs.declared.Cell.{Cell}
 use Rattle.valuation.specs.declared.Cell.TheVariants.{Unset, Value}
 use Rattle.valuation.specs.declared.Lookup.{Lookup}
 use Rattle.valuation.specs.declared.Lookup.TheVariants as lookup
-use Rattle.valuation.specs.declared.Updated.{Updated}
-use Rattle.valuation.specs.declared.Updated.TheVariants as updated
-use Rattle.valuation.specs.declared.LastFixed.{LastFixed}
-use Rattle.valuation.specs.declared.LastFixed.TheVariants as last
-use Rattle.valuation.specs.declared.ValueList.{ValueList}
+use Rattle.valuation.specs.declared.Values.{Values}
 
 -- unset is 0, a value is 1 and the value
-unfoldable pub lookup_reply : Lookup → Reply
-lookup_reply (lookup.Found Unset) = gives (0 ∷ [])
-lookup_reply (lookup.Found (Value b)) = gives (1 ∷ cond b 1 0 ∷ [])
-lookup_reply (lookup.Refused r) = refusal_reply r
+abbrev pub cell_words : Cell → List ℕ
+cell_words Unset = 0 ∷ []
+cell_words (Value b) = 1 ∷ cond b 1 0 ∷ []
 
 -- the two words
-unfoldable pub updated_reply : Updated → Reply
-updated_reply (updated.Valuation v) = gives (v.fixed ∷ v.values ∷ [])
-updated_reply (updated.Refused r) = refusal_reply r
+abbrev pub both_words : BddPartialValuation → List ℕ
+both_words v = v.fixed ∷ v.values ∷ []
+
+-- a mark is its number
+abbrev pub mark_word : BddVariable → List ℕ
+mark_word m = m.0 ∷ []
 
 -- nothing is 0, a mark is 1 and the mark
-unfoldable pub last_fixed_reply : LastFixed → Reply
-last_fixed_reply (last.Variable m) = gives (1 ∷ m.0 ∷ [])
-last_fixed_reply last.Nothing = gives (0 ∷ [])
-last_fixed_reply (last.Refused r) = refusal_reply r
+abbrev pub mark_words : Option BddVariable → List ℕ
+mark_words = optional mark_word
 
--- the count and all the words, in a refused list too
-abbrev pub value_list_reply : ValueList → Reply
-value_list_reply l = record { number = l.refusal.number; place = l.refusal.place; values = l.count ∷ l.words }
+-- the count and all the words
+abbrev pub all_words : Values → List ℕ
+all_words l = l.count ∷ l.words
+
+unfoldable pub lookup_reply : Lookup → Reply
+lookup_reply (lookup.Found c) = gives (cell_words c)
+lookup_reply (lookup.Refused r) = refusal_reply r
+
+-- the count and all the words; a refused list has zeros in their place
+abbrev pub value_list_reply : Result Values Refusal → Reply
+value_list_reply (Ok l) = gives (all_words l)
+value_list_reply (Err r) = record { number = number_of r.kind; place = r.place; values = padded [] (suc max_marks) }
 
 -- where an answer has room for k values: zeros after them, and whatever else a refused call returns is zero
 unfoldable pub replied_in : ℕ → Verdict → Reply

@@ -1,61 +1,113 @@
 // Partial valuations: the marks of a cell that are fixed, and their values.
-#![tactic(auto)]
+#![tactic(auto, using(refusal::proofs::Judged::judged_stops, refusal::proofs::Judged::judged_answers, crate::proofs::Gathering::bad_refuses, crate::proofs::Listing::list_refused, theory::proofs::Masks::bit_shift), unfolding(refusal::specs::Buffers::padded, refusal::specs::Verdict::replied, theory::specs::Clause::cell, theory::specs::Clause::set_cell, theory::specs::Clause::unset_cell, crate::specs::Valuation::asks_empty, crate::specs::Valuation::counts_fixed, crate::specs::Valuation::finds_last, crate::specs::Valuation::gets_value, crate::specs::Valuation::asks_value, crate::specs::Valuation::sets_value, crate::specs::Valuation::unsets_value, crate::specs::Valuation::asks_extends, crate::specs::Valuation::asks_equal, crate::specs::Valuation::same_words))]
 
-ghost use Rattle.std.specs.Prelude.{◌≡◌, ◌<◌, ◌^◌, suc, length};
+ghost use Rattle.std.specs.Prelude.{◌≤◌, ◌≡◌, ◌<◌, ◌^◌, suc, length};
+ghost use Rattle.std.specs.Iterator.{YieldsFirstBy, item_count};
 ghost use Rattle.theory.specs.Mask.{bit, set_bit};
-ghost use Rattle.theory.specs.Clause.{WellFormed, malformed, cell, empty_clause, set_cell, unset_cell, last_mark, extending, gather, entry_of, entries_of};
+ghost use Rattle.theory.specs.Clause.{WellFormed, malformed, cell, empty_clause, set_cell, unset_cell, marks_of, last_mark, extending, gather, entry_of, entries_of};
 ghost use Rattle.refusal.specs.Limits.{max_marks};
-ghost use Rattle.refusal.specs.Verdict.{refusal_reply, replied};
-ghost use Rattle.refusal.specs.Truth.{truth_reply};
-ghost use Rattle.refusal.specs.Counted.{counted_reply};
-ghost use Rattle.valuation.specs.Valuation.{clause_of, cell_of, checked, of_one, of_mark, of_two, first_bad_mark, same_words, says_truth, says_mark, says_entries};
+ghost use Rattle.refusal.specs.Verdict.{gives, replied};
+ghost use Rattle.refusal.specs.Told.{number, truth, nothing, reply_of};
+ghost use Rattle.valuation.specs.Valuation.{clause_of, cell_of, checked, of_one, of_mark, of_two, first_bad_mark, says_mark, says_entries};
 ghost use Rattle.valuation.specs.Valuation.{asks_empty, counts_fixed, finds_last, gathers_values, lists_values, gets_value, asks_value, sets_value, unsets_value, asks_extends, asks_equal};
-ghost use Rattle.valuation.specs.Replies.{lookup_reply, updated_reply, last_fixed_reply, value_list_reply, replied_in};
+ghost use Rattle.valuation.specs.Marks.{mask_bits, mark_number, marks_left};
+ghost use Rattle.valuation.specs.Replies.{cell_words, both_words, mark_word, mark_words, all_words, lookup_reply, value_list_reply, replied_in};
 
-use refusal::{CLAUSE, Counted, MAX_MARKS, Refusal, Truth, VARIABLE};
+use refusal::{MAX_MARKS, Refusal, RefusalKind, Told, refuse_if};
 
 // A mark number.
-#[derive(Clone, Copy)]
+#[derive(Clone, Copy, PartialEq, Eq, Debug)]
 pub struct BddVariable(pub u16);
 
 // A clause: a mask of the fixed marks, and one of their values. Any two words may reach an entry.
-#[derive(Clone, Copy)]
+#[derive(Clone, Copy, PartialEq, Eq, Debug)]
 pub struct BddPartialValuation {
     pub fixed: u64,
     pub values: u64,
 }
 
-#[derive(Clone, Copy)]
+// Cell and lookup have the forms that the specification names.
+#[derive(Clone, Copy, PartialEq, Eq, Debug)]
 pub enum Cell {
     Unset,
     Value(bool),
 }
 
-#[derive(Clone, Copy)]
+#[derive(Clone, Copy, PartialEq, Eq, Debug)]
 pub enum Lookup {
     Found(Cell),
     Refused(Refusal),
 }
 
-#[derive(Clone, Copy)]
-pub enum Updated {
-    Valuation(BddPartialValuation),
-    Refused(Refusal),
-}
-
-#[derive(Clone, Copy)]
-pub enum LastFixed {
-    Variable(BddVariable),
-    Nothing,
-    Refused(Refusal),
-}
-
-// An enum may hold no array, so number 0 says that the list is not refused.
-#[derive(Clone, Copy)]
-pub struct ValueList {
-    pub refusal: Refusal,
+// The words of a list of values, and how many there are.
+#[derive(Clone, Copy, PartialEq, Eq, Debug)]
+pub struct Values {
     pub count: usize,
     pub words: [u32; 60],
+}
+
+impl Told for Cell {
+    ghost values = { cell_words };
+
+    fn tell(self, out: &mut [u64]) {
+        match self {
+            Self::Unset => refusal::tell_with(0, (), out),
+            Self::Value(value) => refusal::tell_with(1, value, out),
+        }
+    }
+}
+
+impl Told for BddPartialValuation {
+    ghost values = { both_words };
+
+    fn tell(self, out: &mut [u64]) {
+        refusal::tell_with(self.fixed, self.values, out);
+    }
+}
+
+impl Told for BddVariable {
+    ghost values = { mark_word };
+
+    fn tell(self, out: &mut [u64]) {
+        refusal::tell_with(u64::from(self.0), (), out);
+    }
+}
+
+impl Told for Values {
+    ghost values = { all_words };
+
+    #[tactic(auto, using(refusal::proofs::Zeroing::padded_first), unfolding(refusal::specs::Buffers::padded))]
+    fn tell(self, out: &mut [u64]) {
+        let (front, rest) = out.split_at_mut(1);
+        front[0] = self.count as u64;
+        let (words, spare) = rest.split_at_mut(60);
+        let own = self.words;
+        widen(&own, words);
+        spare.fill(0);
+    }
+}
+
+// The words of one slice in another.
+fn widen(words: &[u32], out: &mut [u64])
+    requires { length out.old ≡ length words.now }
+    ensures { out.new ≡ words.now }
+{
+    for i in 0..words.len() {
+        out[i] = u64::from(words[i]);
+    }
+}
+
+impl Lookup {
+    // The cell, or the refusal.
+    #[tactic(auto, unfolding(crate::specs::Replies::lookup_reply))]
+    pub fn answer(self) -> Result<Cell, Refusal>
+        ensures { reply_of cell_words result ≡ lookup_reply self }
+    {
+        match self {
+            Self::Found(cell) => Ok(cell),
+            Self::Refused(refusal) => Err(refusal),
+        }
+    }
 }
 
 // Inner: the mark's bit of a mask.
@@ -75,6 +127,36 @@ pub fn set_bit(mask: u64, id: BddVariable, value: bool) -> u64
         mask | (1 << id.0)
     } else {
         mask & !(1 << id.0)
+    }
+}
+
+// The marks that are left of a mask, rising.
+#[derive(Clone, Copy)]
+pub struct Marks {
+    rest: u64,
+}
+
+// Inner: the marks of a mask, rising.
+pub fn marks_of(mask: u64) -> Marks
+    ensures { marks_left result ≡ marks_of mask_bits mask }
+{
+    Marks { rest: mask }
+}
+
+impl Iterator for Marks {
+    type Item = BddVariable;
+
+    ghost next_gives = { YieldsFirstBy mark_number marks_left };
+
+    ghost remaining = { item_count marks_left };
+
+    fn next(&mut self) -> Option<BddVariable> {
+        if self.rest == 0 {
+            return None;
+        }
+        let mark = BddVariable(self.rest.trailing_zeros() as u16);
+        self.rest = set_bit(self.rest, mark, false);
+        Some(mark)
     }
 }
 
@@ -100,20 +182,12 @@ pub fn without_bit(v: BddPartialValuation, id: BddVariable) -> BddPartialValuati
     }
 }
 
-fn is_malformed(v: BddPartialValuation) -> bool
-    ensures { result ≡ malformed max_marks v.fixed v.values }
+// Inner: a fixed mark from n up, or a value of a mark that is not fixed.
+pub fn is_malformed(n: u16, v: BddPartialValuation) -> bool
+    requires { n ≤ max_marks }
+    ensures { result ≡ malformed n v.fixed v.values }
 {
-    if v.fixed >> MAX_MARKS != 0 {
-        return true;
-    }
-    v.fixed | v.values != v.fixed
-}
-
-// The answer yes or no.
-fn truth_of(b: bool) -> Truth
-    ensures { truth_reply result ≡ replied (says_truth b) }
-{
-    if b { Truth::Yes } else { Truth::No }
+    v.fixed >> n != 0 || v.fixed | v.values != v.fixed
 }
 
 // Inner: the cell at a mark; it never refuses.
@@ -129,14 +203,14 @@ pub fn cell_at(v: BddPartialValuation, id: BddVariable) -> Cell
 }
 
 // The greatest mark of a mask.
-fn last_mark(mask: u64) -> LastFixed
+fn last_mark(mask: u64) -> Option<BddVariable>
     requires { mask < 2 ^ max_marks }
-    ensures { last_fixed_reply result ≡ replied (says_mark (last_mark max_marks mask)) }
+    ensures { gives (mark_words result) ≡ replied (says_mark (last_mark max_marks mask)) }
 {
     if mask == 0 {
-        return LastFixed::Nothing;
+        return None;
     }
-    LastFixed::Variable(BddVariable((63 - u64::leading_zeros(mask)) as u16))
+    Some(BddVariable((63 - mask.leading_zeros()) as u16))
 }
 
 // Every cell that is fixed in the second is fixed in the first with the same value.
@@ -144,82 +218,43 @@ fn agree(first: BddPartialValuation, second: BddPartialValuation) -> bool
     requires { WellFormed max_marks (clause_of first) × WellFormed max_marks (clause_of second) }
     ensures { result ≡ extending max_marks (clause_of first) (clause_of second) }
 {
-    if first.fixed & second.fixed != second.fixed {
-        return false;
-    }
-    first.values & second.fixed == second.values
+    first.fixed & second.fixed == second.fixed && first.values & second.fixed == second.values
 }
 
-fn same_words(first: BddPartialValuation, second: BddPartialValuation) -> bool
-    ensures { result ≡ same_words (clause_of first) (clause_of second) }
+// What is wrong with one valuation, with one and a mark, with two.
+#[tactic(auto, unfolding(refusal::specs::Number::order, refusal::specs::Verdict::judged, refusal::specs::Verdict::tried, refusal::specs::Verdict::first_of, refusal::specs::Verdict::replied))]
+fn check_one(v: BddPartialValuation) -> Result<(), Refusal>
+    ensures { reply_of nothing result ≡ replied (checked (of_one (clause_of v))) }
 {
-    if first.fixed != second.fixed {
-        return false;
-    }
-    first.values == second.values
+    refuse_if(is_malformed(MAX_MARKS, v), RefusalKind::Clause, 0)
 }
 
-// What is wrong with one valuation, with one and a mark, with two: number 0 where nothing is.
-fn check_one(v: BddPartialValuation) -> Refusal
-    ensures { refusal_reply result ≡ replied (checked (of_one (clause_of v))) }
+#[tactic(auto, unfolding(refusal::specs::Number::order, refusal::specs::Verdict::judged, refusal::specs::Verdict::tried, refusal::specs::Verdict::first_of, refusal::specs::Verdict::replied))]
+fn check_mark(v: BddPartialValuation, id: BddVariable) -> Result<(), Refusal>
+    ensures { reply_of nothing result ≡ replied (checked (of_mark (clause_of v) id.0)) }
 {
-    if is_malformed(v) {
-        return Refusal {
-            number: CLAUSE,
-            place: 0,
-        };
-    }
-    Refusal {
-        number: 0,
-        place: 0,
-    }
-}
-
-fn check_mark(v: BddPartialValuation, id: BddVariable) -> Refusal
-    ensures { refusal_reply result ≡ replied (checked (of_mark (clause_of v) id.0)) }
-{
-    if MAX_MARKS <= id.0 {
-        return Refusal {
-            number: VARIABLE,
-            place: id.0 as u64,
-        };
-    }
+    refuse_if(MAX_MARKS <= id.0, RefusalKind::Variable, id.0 as u64)?;
     check_one(v)
 }
 
-fn check_two(first: BddPartialValuation, second: BddPartialValuation) -> Refusal
-    ensures { refusal_reply result ≡ replied (checked (of_two (clause_of first) (clause_of second))) }
+#[tactic(auto, unfolding(refusal::specs::Number::order, refusal::specs::Verdict::judged, refusal::specs::Verdict::tried, refusal::specs::Verdict::first_of, refusal::specs::Verdict::replied))]
+fn check_two(first: BddPartialValuation, second: BddPartialValuation) -> Result<(), Refusal>
+    ensures { reply_of nothing result ≡ replied (checked (of_two (clause_of first) (clause_of second))) }
 {
-    if is_malformed(first) {
-        return Refusal {
-            number: CLAUSE,
-            place: 0,
-        };
-    }
-    if is_malformed(second) {
-        return Refusal {
-            number: CLAUSE,
-            place: 1,
-        };
-    }
-    Refusal {
-        number: 0,
-        place: 0,
-    }
+    refuse_if(is_malformed(MAX_MARKS, first), RefusalKind::Clause, 0)?;
+    refuse_if(is_malformed(MAX_MARKS, second), RefusalKind::Clause, 1)
 }
 
 // The index of the first entry whose mark is too large, or the length.
 fn first_bad_mark(values: &[u32]) -> usize
     ensures { result ≡ first_bad_mark values.now }
 {
-    let mut i = 0;
-    while i < values.len() {
+    for i in 0..values.len() {
         if MAX_MARKS as u32 <= values[i] / 2 {
             return i;
         }
-        i += 1;
     }
-    i
+    values.len()
 }
 
 // The entries set their marks in turn.
@@ -228,11 +263,8 @@ fn gather_values(values: &[u32]) -> BddPartialValuation
     ensures { clause_of result ≡ gather empty_clause values.now }
 {
     let mut v = BddPartialValuation::empty();
-    let mut i = 0;
-    while i < values.len() {
-        let word = values[i];
+    for &word in values {
         v = with_bit(v, BddVariable((word / 2) as u16), word % 2 == 1);
-        i += 1;
     }
     v
 }
@@ -246,28 +278,17 @@ fn entry_of(mark: u32, value: bool) -> u32
 }
 
 // The words of the fixed marks, rising.
-fn list_values(v: BddPartialValuation) -> ValueList
+fn list_values(v: BddPartialValuation) -> Values
     requires { WellFormed max_marks (clause_of v) }
-    ensures { value_list_reply result ≡ replied_in (suc max_marks) (says_entries (entries_of max_marks (clause_of v))) }
+    ensures { gives (all_words result) ≡ replied_in (suc max_marks) (says_entries (entries_of max_marks (clause_of v))) }
 {
     let mut words = [0u32; 60];
     let mut count: usize = 0;
-    let mut rest = v.fixed;
-    while rest != 0 {
-        let mark = u64::trailing_zeros(rest);
-        let id = BddVariable(mark as u16);
-        words[count] = entry_of(mark, has_bit(v.values, id));
+    for mark in marks_of(v.fixed) {
+        words[count] = entry_of(mark.0 as u32, has_bit(v.values, mark));
         count += 1;
-        rest = set_bit(rest, id, false);
     }
-    ValueList {
-        refusal: Refusal {
-            number: 0,
-            place: 0,
-        },
-        count,
-        words,
-    }
+    Values { count, words }
 }
 
 impl BddPartialValuation {
@@ -280,121 +301,84 @@ impl BddPartialValuation {
         }
     }
 
-    pub fn is_empty(self) -> Truth
-        ensures { truth_reply result ≡ replied (asks_empty (clause_of self)) }
+    pub fn is_empty(self) -> Result<bool, Refusal>
+        ensures { reply_of truth result ≡ replied (asks_empty (clause_of self)) }
     {
-        let refusal = check_one(self);
-        if refusal.number != 0 {
-            return Truth::Refused(refusal);
-        }
-        truth_of(self.fixed == 0)
+        check_one(self)?;
+        Ok(self.fixed == 0)
     }
 
-    pub fn cardinality(self) -> Counted
-        ensures { counted_reply result ≡ replied (counts_fixed (clause_of self)) }
+    pub fn cardinality(self) -> Result<u64, Refusal>
+        ensures { reply_of number result ≡ replied (counts_fixed (clause_of self)) }
     {
-        let refusal = check_one(self);
-        if refusal.number != 0 {
-            return Counted::Refused(refusal);
-        }
-        Counted::Number(u64::count_ones(self.fixed) as u64)
+        check_one(self)?;
+        Ok(self.fixed.count_ones() as u64)
     }
 
-    pub fn last_fixed_variable(self) -> LastFixed
-        ensures { last_fixed_reply result ≡ replied (finds_last (clause_of self)) }
+    pub fn last_fixed_variable(self) -> Result<Option<BddVariable>, Refusal>
+        ensures { reply_of mark_words result ≡ replied (finds_last (clause_of self)) }
     {
-        let refusal = check_one(self);
-        if refusal.number != 0 {
-            return LastFixed::Refused(refusal);
-        }
-        last_mark(self.fixed)
+        check_one(self)?;
+        Ok(last_mark(self.fixed))
     }
 
-    pub fn from_values(values: &[u32]) -> Updated
-        ensures { updated_reply result ≡ replied (gathers_values values.now) }
+    pub fn from_values(values: &[u32]) -> Result<BddPartialValuation, Refusal>
+        ensures { reply_of both_words result ≡ replied (gathers_values values.now) }
     {
         let bad = first_bad_mark(values);
-        if bad < values.len() {
-            return Updated::Refused(Refusal {
-                number: VARIABLE,
-                place: bad as u64,
-            });
-        }
-        Updated::Valuation(gather_values(values))
+        refuse_if(bad < values.len(), RefusalKind::Variable, bad as u64)?;
+        Ok(gather_values(values))
     }
 
-    pub fn to_values(self) -> ValueList
+    pub fn to_values(self) -> Result<Values, Refusal>
         ensures { value_list_reply result ≡ replied_in (suc max_marks) (lists_values (clause_of self)) }
     {
-        let refusal = check_one(self);
-        if refusal.number != 0 {
-            return ValueList {
-                refusal,
-                count: 0,
-                words: [0u32; 60],
-            };
-        }
-        list_values(self)
+        check_one(self)?;
+        Ok(list_values(self))
     }
 
     pub fn get_value(self, id: BddVariable) -> Lookup
         ensures { lookup_reply result ≡ replied (gets_value (clause_of self) id.0) }
     {
-        let refusal = check_mark(self, id);
-        if refusal.number != 0 {
-            return Lookup::Refused(refusal);
+        match check_mark(self, id) {
+            Ok(()) => Lookup::Found(cell_at(self, id)),
+            Err(refusal) => Lookup::Refused(refusal),
         }
-        Lookup::Found(cell_at(self, id))
     }
 
-    pub fn has_value(self, id: BddVariable) -> Truth
-        ensures { truth_reply result ≡ replied (asks_value (clause_of self) id.0) }
+    pub fn has_value(self, id: BddVariable) -> Result<bool, Refusal>
+        ensures { reply_of truth result ≡ replied (asks_value (clause_of self) id.0) }
     {
-        let refusal = check_mark(self, id);
-        if refusal.number != 0 {
-            return Truth::Refused(refusal);
-        }
-        truth_of(has_bit(self.fixed, id))
+        check_mark(self, id)?;
+        Ok(has_bit(self.fixed, id))
     }
 
-    pub fn set_value(self, id: BddVariable, value: bool) -> Updated
-        ensures { updated_reply result ≡ replied (sets_value (clause_of self) id.0 value) }
+    pub fn set_value(self, id: BddVariable, value: bool) -> Result<BddPartialValuation, Refusal>
+        ensures { reply_of both_words result ≡ replied (sets_value (clause_of self) id.0 value) }
     {
-        let refusal = check_mark(self, id);
-        if refusal.number != 0 {
-            return Updated::Refused(refusal);
-        }
-        Updated::Valuation(with_bit(self, id, value))
+        check_mark(self, id)?;
+        Ok(with_bit(self, id, value))
     }
 
-    pub fn unset_value(self, id: BddVariable) -> Updated
-        ensures { updated_reply result ≡ replied (unsets_value (clause_of self) id.0) }
+    pub fn unset_value(self, id: BddVariable) -> Result<BddPartialValuation, Refusal>
+        ensures { reply_of both_words result ≡ replied (unsets_value (clause_of self) id.0) }
     {
-        let refusal = check_mark(self, id);
-        if refusal.number != 0 {
-            return Updated::Refused(refusal);
-        }
-        Updated::Valuation(without_bit(self, id))
+        check_mark(self, id)?;
+        Ok(without_bit(self, id))
     }
 
     // This valuation is the more specific one.
-    pub fn extends(self, valuation: BddPartialValuation) -> Truth
-        ensures { truth_reply result ≡ replied (asks_extends (clause_of self) (clause_of valuation)) }
+    pub fn extends(self, valuation: BddPartialValuation) -> Result<bool, Refusal>
+        ensures { reply_of truth result ≡ replied (asks_extends (clause_of self) (clause_of valuation)) }
     {
-        let refusal = check_two(self, valuation);
-        if refusal.number != 0 {
-            return Truth::Refused(refusal);
-        }
-        truth_of(agree(self, valuation))
+        check_two(self, valuation)?;
+        Ok(agree(self, valuation))
     }
 
-    pub fn eq(self, other: BddPartialValuation) -> Truth
-        ensures { truth_reply result ≡ replied (asks_equal (clause_of self) (clause_of other)) }
+    pub fn eq(self, other: BddPartialValuation) -> Result<bool, Refusal>
+        ensures { reply_of truth result ≡ replied (asks_equal (clause_of self) (clause_of other)) }
     {
-        let refusal = check_two(self, other);
-        if refusal.number != 0 {
-            return Truth::Refused(refusal);
-        }
-        truth_of(same_words(self, other))
+        check_two(self, other)?;
+        Ok(self == other)
     }
 }

@@ -15,8 +15,8 @@ use Rattle.refusal.specs.Verdict.{refused}
 use Rattle.table.specs.Inspection.{SoundTable}
 use Rattle.paths.specs.Paths.{path_list}
 use Rattle.reduced.specs.Reduced.{admits_walk}
-use Rattle.walk.specs.Path.{kept, turned, path_next, first_path, in_array, state_of, Held}
-use Rattle.walk.specs.Walk.{ended, yields, step_of, next_path, start_by, start_of, held_words, words_of, path_of, path_after, kth_step, tells, clauses_by, walk_clauses}
+use Rattle.walk.specs.Path.{kept, turned, path_next, first_path, state_of, Held}
+use Rattle.walk.specs.Step.{ended, yields, step_of, next_path, start_by, start_of, held_words, words_of, path_of, path_after, kth_step, tells, clauses_by, walk_clauses}
 use Rattle.reduced.proofs.CheckLaws.{Stopped, Admitted, walk-either, reduced_admits, refused-number}
 use Rattle.walk.proofs.PathLaws.{held-is}
 use Rattle.walk.proofs.Ways.{walk-holds, walk-tells}
@@ -85,7 +85,7 @@ module _ (n count : ℕ) (w : List ℕ) where
 
   -- a refused start: number and place of the refusal, none of the words, no path; an admitted one: the first path over the whole words
   pub start_refused : (number place : ℕ) → admits_walk n count w ≡ refused number place
-      → (start_of n count w ≡ record { number = number; place = place; len = 0; path = in_array [] }) × (words_of n count w ≡ [])
+      → (start_of n count w ≡ record { number = number; place = place; first = state_of [] }) × (words_of n count w ≡ [])
   unfolding start_of start_by held_words
   start_refused number place e = (
     ap (λ v. start_by v (first_path w (count - 1))) e,

@@ -1,6 +1,6 @@
 pub mod PathLaws
+pub mod Holding
 pub mod StartLaws
 pub mod Ways
 pub mod KthLaws
-pub mod Sounds
 pub mod WalkSingle

@@ -8,8 +8,8 @@ use native.Mathlib.Omega.{arith}
 use native.Mathlib.Nat.{pos_of_ne-zero}
 use native.Mathlib.Decide.{ℕ_discrete, dec_lt}
 use lib.Dec.{eqb}
-use lib.ListN.{length, get_or, set, take, drop, replicate, length-append, length-replicate, get_or-append, drop_of_length-le}
-use lib.Seq.{take-append_seam, take-append-le, set-append_seam, take-suc, length-take-le, get_or-take, drop-cons, append_snoc}
+use lib.ListN.{length, set, take, drop, replicate, length-append, length-replicate, get_or-append, drop_of_length-le}
+use lib.Seq.{take-append_seam, take-append-le, set-append_seam, length-take-le, get_or-take, drop-cons, append_snoc}
 use borrow.Author.Tests.{eq-eqb, ne_eqb, eqb-false, lt-ltb, le-ltb, not-true}
 use Rattle.theory.specs.Table.{Table, at, child_of, Reduced}
 use Rattle.theory.specs.Words.{stride, node_at, nodes}
@@ -21,8 +21,9 @@ use Rattle.table.specs.declared.BddPointer.{BddPointer}
 use Rattle.valuation.specs.declared.BddPartialValuation.{BddPartialValuation}
 use Rattle.valuation.specs.Valuation.{clause_of}
 use Rattle.walk.specs.declared.PathState.{PathState}
+use Rattle.std.proofs.lemmas.List.{drop-replicate}
 use Rattle.walk.specs.Path.{Path, pointer, on, onward, first_from, can_turn, kept, turned, path_next, cells_from, clause_along, places, in_array, state_of, held, Along, Held, Descends, Descending}
-use Rattle.walk.specs.Walk.{next_path}
+use Rattle.walk.specs.Step.{next_path}
 use Rattle.reduced.proofs.ReachLaws.{constant_mark}
 
 -- a path in its array
@@ -338,23 +339,17 @@ module _ (w : List ℕ) (s : PathState) (h : Held w s) where
   unfolding in_array
   cut-way k d = ap (take k) state_path ∙ take-append-le k h.way _ (omega (arith, state_len))
 
--- a path copied node by node
-pub cut_start : (old : Path) → replicate places (pointer 0) ≡ in_array (take 0 old)
+-- the first nodes of a path, copied into an array of none
+pub cut_is : (old : Path) (keep : ℕ) → keep ≤ places → length old ≡ places → take keep old ++ drop keep (replicate places (pointer 0)) ≡ in_array (take keep old)
 unfolding in_array
-cut_start old = refl
+cut_is old keep h l =
+    let long : length (take keep old) ≡ keep = length-take-le keep old (omega arith) in
+    ap (λ y. take keep old ++ y) (drop-replicate keep places (pointer 0) ∙ ap (λ k. replicate (places - k) (pointer 0)) (sym long))
 
-pub cut_step : (old path : Path) (i : ℕ) → i < places → length old ≡ places → path ≡ in_array (take i old) → set path i (get_or old i (pointer 0)) ≡ in_array (take (i + 1) old)
-cut_step old path i h l e =
-    let long : length (take i old) ≡ i = length-take-le i old (omega arith) in
-    let one : i + 1 ≡ suc i = omega arith in
-    rw (one, take-suc old i (pointer 0) (omega arith), e)
-    (ap (λ k. set (in_array (take i old)) k (get_or old i (pointer 0))) (sym long) ∙ array_push (take i old) (get_or old i (pointer 0)) (omega arith))
-
-pub cut-end : (old path : Path) (i keep : ℕ) → i ≤ keep → keep ≤ i → keep ≤ places → length old ≡ places → path ≡ in_array (take i old)
+pub cut_state : (old path : Path) (keep : ℕ) → keep ≤ places → length old ≡ places → path ≡ take keep old ++ drop keep (replicate places (pointer 0))
     → ◌≡◌ {A = PathState} (record { len = keep; path = path }) (state_of (take keep old))
-cut-end old path i keep a b h l e =
-    let end : i ≡ keep = omega arith in
-    let same : path ≡ in_array (take keep old) = e ∙ ap (λ k. in_array (take k old)) end in
+cut_state old path keep h l e =
+    let same : path ≡ in_array (take keep old) = e ∙ cut_is old keep h l in
     λ j. record { len = sym (length-take-le keep old (omega arith)) j; path = same j }
 
 -- a clause, cell by cell

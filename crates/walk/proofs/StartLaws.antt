@@ -12,19 +12,19 @@ use Rattle.theory.specs.Clause.{Clause}
 use Rattle.refusal.specs.Verdict.{refused, replied, refused_with, gives}
 use Rattle.refusal.specs.Limits.{max_marks}
 use Rattle.refusal.specs.declared.Refusal.{Refusal}
-use Rattle.refusal.proofs.Single.{no-values, one_value}
+use Rattle.refusal.specs.Number.{number_of}
+use Rattle.refusal.proofs.Single.{no-values, no_values, one_value, number_positive}
 use Rattle.valuation.specs.declared.BddPartialValuation.{BddPartialValuation}
 use Rattle.valuation.specs.Valuation.{clause_of}
 use Rattle.table.specs.declared.BddPointer.{BddPointer}
 use Rattle.table.specs.declared.Inspection.{Inspection}
 use Rattle.table.specs.declared.Inspection.TheVariants.{Sound, Refused}
-use Rattle.table.specs.Inspection.{inspection_reply, refusal_in, SoundTable}
+use Rattle.table.specs.Inspection.{inspection_reply, SoundTable}
 use Rattle.walk.specs.declared.PathState.{PathState}
-use Rattle.walk.specs.declared.PathStart.{PathStart}
-use Rattle.walk.specs.declared.PathStep.TheVariants as step
+use Rattle.std.specs.Prelude.{Some, None, Ok, Err}
 use Rattle.reduced.specs.Reduced.{admits_walk}
 use Rattle.walk.specs.Path.{pointer, first_from, first_path, clause_along, places, in_array, state_of, held, Descending}
-use Rattle.walk.specs.Walk.{path_step_reply, step_of, start_by, start_of}
+use Rattle.walk.specs.Step.{path_step_reply, step_of, PathStart, found, start_by, start_of, held_words, words_of}
 use Rattle.reduced.proofs.CheckLaws.{Admitted, walk-either}
 
 -- no path yet
@@ -61,22 +61,22 @@ module _ (n count : ℕ) (w : List ℕ) (root : ℕ) where
   first_goes e r is = is ∙ rw (ne_eqb root 0 e)
 
 -- what a step says
-pub step-ends : (w : List ℕ) (s : PathState) → s.len ≡ 0 → path_step_reply step.Ended ≡ replied (step_of w s)
-unfolding path_step_reply step_of replied
+pub step-ends : (w : List ℕ) (s : PathState) → s.len ≡ 0 → path_step_reply None ≡ replied (step_of w s)
+unfolding step_of replied
 step-ends w s e = rw (eq-eqb s.len 0 e)
 
-pub step-yields : (w : List ℕ) (s : PathState) (v : BddPartialValuation) → s.len ≢ 0 → clause_of v ≡ clause_along w (held s) → path_step_reply (step.Clause v) ≡ replied (step_of w s)
-unfolding path_step_reply step_of replied
+pub step-yields : (w : List ℕ) (s : PathState) (v : BddPartialValuation) → s.len ≢ 0 → clause_of v ≡ clause_along w (held s) → path_step_reply (Some v) ≡ replied (step_of w s)
+unfolding step_of replied
 step-yields w s v e is = rw (ne_eqb s.len 0 e) (ap (λ (c : Clause). gives (1 ∷ c.fixed ∷ c.values ∷ [])) is)
 
 -- what a start finds, from the answer of its check
 module _ (n count : ℕ) (w : List ℕ) (a : Inspection) (e : inspection_reply a ≡ replied (admits_walk n count w)) where
-  pub check_stopped : (r : Refusal) → a ≡ Refused r → admits_walk n count w ≡ refused r.number r.place
+  pub check_stopped : (r : Refusal) → a ≡ Refused r → admits_walk n count w ≡ refused (number_of r.kind) r.place
   unfolding inspection_reply replied
   check_stopped r is = elim (walk-either n count w) [
     | inl m ↦ no-values r (count - 1) [] (sym (ap inspection_reply is) ∙ e ∙ ap replied m.is)
     | inr m ↦
-        let q : refused_with r.number r.place ≡ refused_with m.number m.place = sym (ap inspection_reply is) ∙ e ∙ ap replied m.is in
+        let q : refused_with (number_of r.kind) r.place ≡ refused_with m.number m.place = sym (ap inspection_reply is) ∙ e ∙ ap replied m.is in
         m.is ∙ sym (λ i. refused (q i).number (q i).place)
   ]
 
@@ -84,15 +84,12 @@ module _ (n count : ℕ) (w : List ℕ) (a : Inspection) (e : inspection_reply a
   unfolding inspection_reply replied
   check_admitted p is = elim (walk-either n count w) [
     | inl m ↦ (m, one_value p.0 (count - 1) (sym (ap inspection_reply is) ∙ e ∙ ap replied m.is))
-    | inr m ↦ no-values (record { number = m.number; place = m.place }) p.0 [] (sym (sym (ap inspection_reply is) ∙ e ∙ ap replied m.is))
+    | inr m ↦ no_values m.number m.place p.0 [] (sym (sym (ap inspection_reply is) ∙ e ∙ ap replied m.is))
   ]
 
-  pub start_stops : (r q : Refusal) → a ≡ Refused r → q ≡ refusal_in a
-      → ◌≡◌ {A = PathStart} (record { number = q.number; place = q.place; len = 0; path = replicate places (pointer 0) }) (start_of n count w)
-  unfolding start_of start_by in_array
-  start_stops r q is is-q =
-      let same : q ≡ r = is-q ∙ ap refusal_in is in
-      rw (same, check_stopped r is)
+  pub start_stops : (q : Refusal) → a ≡ Refused q → found (Err q) ≡ start_of n count w
+  unfolding start_of start_by
+  start_stops q is = rw (check_stopped q is)
 
   module _ (p : BddPointer) (is : a ≡ Sound p) where
     pub start_sound : (SoundTable n count w p.0) × (Reduced n (nodes count w))
@@ -100,9 +97,19 @@ module _ (n count : ℕ) (w : List ℕ) (a : Inspection) (e : inspection_reply a
         let m : (Admitted n count w) × (p.0 ≡ count - 1) = check_admitted p is in
         (rw m.1 m.0.sound, m.0.reduced)
 
-    pub start_goes : (s : PathState) → s ≡ state_of (first_path w p.0) → ◌≡◌ {A = PathStart} (record { number = 0; place = 0; len = s.len; path = s.path }) (start_of n count w)
+    pub start_goes : (s : PathState) → s ≡ state_of (first_path w p.0) → found (Ok s) ≡ start_of n count w
     unfolding start_of start_by
     start_goes s e =
         let m : (Admitted n count w) × (p.0 ≡ count - 1) = check_admitted p is in
         let f : s ≡ state_of (first_path w (count - 1)) = e ∙ ap (λ k. state_of (first_path w k)) m.1 in
-        rw m.0.is (λ i. record { number = 0; place = 0; len = (f i).len; path = (f i).path })
+        rw m.0.is (λ i. record { number = 0; place = 0; first = f i })
+
+-- the words that a walk holds, by what its start finds
+module _ (n count : ℕ) (w : List ℕ) where
+  pub words_found : (s : PathState) → found (Ok s) ≡ start_of n count w → w ≡ words_of n count w
+  unfolding held_words
+  words_found s e = ap (λ (z : PathStart). held_words z.number w) e
+
+  pub words_refused : (r : Refusal) → found (Err r) ≡ start_of n count w → [] ≡ words_of n count w
+  unfolding held_words
+  words_refused r e = sym (ap (λ (z : PathStart). held_words z.number w) (sym e) ∙ rw (ne_eqb (number_of r.kind) 0 (λ z. omega (arith, z, number_positive r.kind))) refl)

@@ -10,7 +10,7 @@ use native.Mathlib.Decide.{ℕ_discrete, dec_lt}
 use lib.Dec.{eqb, ltb}
 use lib.ListN.{length, get_or}
 use borrow.Author.Tests.{eq-eqb, ne_eqb, lt-ltb, le-ltb}
-use Rattle.theory.specs.Table.{Table, at, child_of, Reduced}
+use Rattle.theory.specs.Table.{Table, child_of, Reduced}
 use Rattle.theory.specs.Words.{stride, node_at, nodes}
 use Rattle.theory.specs.Clause.{Clause, empty_clause, set_cell}
 use Rattle.theory.proofs.Words.{at-nodes, child_falls}
@@ -20,7 +20,7 @@ use Rattle.table.specs.declared.BddPointer.{BddPointer}
 use Rattle.walk.specs.Path.{Path, pointer, on, onward, first_from, first_path, can_turn, kept, turned, path_next, cells_from, clause_along, Along}
 use Rattle.walk.specs.declared.PathState.{PathState}
 use Rattle.walk.specs.Path.{state_of, held, Held}
-use Rattle.walk.specs.Walk.{step_of, yields, next_path, path_after, tells}
+use Rattle.walk.specs.Step.{step_of, yields, next_path, path_after, tells}
 use Rattle.walk.proofs.PathLaws.{held-is, first-end, first_inner, mark_rises, mark-inner, links-differ}
 
 -- the ways on from a constant: none from 0, and one from 1

@@ -1,2 +1,3 @@
 pub mod Path
+pub mod Step
 pub mod Walk

@@ -1,99 +1,43 @@
--- The path walk: what it is at its start and after each step.
-use Rattle.std.specs.Prelude.{◌≡◌, true, cond, List, [], ◌∷◌, ℕ, zero, suc, ◌-◌, eqb, length}
-use Rattle.theory.specs.Words.{nodes}
-use Rattle.theory.specs.Clause.{Clause}
-use Rattle.refusal.specs.Verdict.{Reply, gives, Verdict, refused, answered}
+-- The walk's struct: its parts, and what a step makes of them.
+use Rattle.std.specs.Prelude.{◌≡◌, ℕ, Option, Some, None}
+use Rattle.refusal.specs.Number.{number_of}
+use Rattle.refusal.specs.Verdict.{replied}
 use Rattle.refusal.specs.declared.Refusal.{Refusal}
-use Rattle.paths.specs.Paths.{path_list}
-use Rattle.reduced.specs.Reduced.{admits_walk}
-use Rattle.walk.specs.Path.{Path, path_next, first_path, clause_along, in_array, state_of, held}
+use Rattle.valuation.specs.declared.BddPartialValuation.{BddPartialValuation}
 use Rattle.walk.specs.declared.PathState.{PathState}
-use Rattle.walk.specs.declared.PathStart.{PathStart}
 use Rattle.walk.specs.declared.BddPathIterator.{BddPathIterator}
-use Rattle.walk.specs.declared.PathStep.{PathStep}
-use Rattle.walk.specs.declared.PathStep.TheVariants as step
+use Rattle.walk.specs.Step.{path_step_reply, step_of, next_path, PathStart, Came}
 
--- a step's reply: ended, or a clause
-unfoldable pub path_step_reply : PathStep → Reply
-path_step_reply (step.Clause v) = gives (1 ∷ v.fixed ∷ v.values ∷ [])
-path_step_reply step.Ended = gives (0 ∷ [])
+-- a refusal's number and place, or 0 and 0 for none
+abbrev pub number_in : Option Refusal → ℕ
+number_in None = 0
+number_in (Some r) = number_of r.kind
 
-abbrev pub ended : Verdict
-ended = answered (0 ∷ []) []
-
-abbrev pub yields : Clause → Verdict
-yields c = answered (1 ∷ c.fixed ∷ c.values ∷ []) []
-
--- a step says the clause of the path that the walk holds, or that the walk has ended
-unfoldable pub step_of : List ℕ → PathState → Verdict
-step_of w s = cond (eqb s.len 0) ended (yields (clause_along w (held s)))
-
--- afterwards it holds the next path
-unfoldable pub next_path : List ℕ → PathState → PathState
-next_path w s = state_of (path_next w (held s))
-
--- what a start finds: a refusal and no path, or the first path
-unfoldable pub start_by : Verdict → Path → PathStart
-start_by (refused k p) x = record { number = k; place = p; len = 0; path = in_array [] }
-start_by (answered vs outs) x = record { number = 0; place = 0; len = length x; path = in_array x }
-
-unfoldable pub start_of : ℕ → ℕ → List ℕ → PathStart
-start_of n count w = start_by (admits_walk n count w) (first_path w (count - 1))
-
--- the words that a walk holds: the whole lent slice, or none where the start is refused
-unfoldable pub held_words : ℕ → List ℕ → List ℕ
-held_words number w = cond (eqb number 0) w []
-
-abbrev pub words_of : ℕ → ℕ → List ℕ → List ℕ
-words_of n count w = held_words (start_of n count w).number w
+abbrev pub place_in : Option Refusal → ℕ
+place_in None = 0
+place_in (Some r) = r.place
 
 -- a walk's parts: what its start found, its path, and its refusal
 abbrev pub start_in : BddPathIterator → PathStart
-start_in i = record { number = i.number; place = i.place; len = i.len; path = i.path }
+start_in i = record { number = number_in i.refusal; place = place_in i.refusal; first = i.at }
 
 abbrev pub path_in : BddPathIterator → PathState
-path_in i = record { len = i.len; path = i.path }
+path_in i = i.at
 
-abbrev pub refusal_in : BddPathIterator → Refusal
-refusal_in i = record { number = i.number; place = i.place }
+abbrev pub refusal_in : BddPathIterator → Option Refusal
+refusal_in i = i.refusal
 
--- a walk at another path
-abbrev pub at : BddPathIterator → PathState → BddPathIterator
-at i s = record { bdd = i.bdd; len = s.len; path = s.path; number = i.number; place = i.place }
-
--- a walk after a step
-abbrev pub moved : BddPathIterator → BddPathIterator
-moved i = at i (next_path i.bdd.now (path_in i))
-
--- the path that a start has found
-abbrev pub path_of : PathStart → PathState
-path_of s = record { len = s.len; path = s.path }
-
--- the path after k steps
-abbrev pub path_after : ℕ → List ℕ → PathState → PathState
-path_after zero w s = s
-path_after (suc k) w s = next_path w (path_after k w s)
-
--- what a walk says after k steps
-abbrev pub kth_step : ℕ → ℕ → List ℕ → ℕ → Verdict
-kth_step n count w k = step_of (words_of n count w) (path_after k (words_of n count w) (path_of (start_of n count w)))
-
--- what the step after k others says in a walk through these clauses: each step yields the next one, and after the last every step says ended
-unfoldable pub tells : List Clause → ℕ → Verdict
-tells [] k = ended
-tells (c ∷ cs) zero = yields c
-tells (c ∷ cs) (suc k) = tells cs k
-
--- the clauses that a walk has before it: none where the start is refused
-unfoldable pub clauses_by : Verdict → List Clause → List Clause
-clauses_by (refused k p) cs = []
-clauses_by (answered vs outs) cs = cs
-
--- they are the table's path list
-abbrev pub walk_clauses : ℕ → ℕ → List ℕ → List Clause
-walk_clauses n count w = clauses_by (admits_walk n count w) (path_list true n (nodes count w))
-
--- a walk that a start has made, after some steps: the one assumption of a step
+-- a walk that a start has made, after some steps: each walk is one
 abbrev pub FromStart : BddPathIterator → Type 0
-FromStart i = (n : ℕ) × ((count : ℕ) × ((w : List ℕ) × ((k : ℕ) ×
-    ((i.bdd.now ≡ words_of n count w) × (path_in i ≡ path_after k (words_of n count w) (path_of (start_of n count w)))))))
+FromStart i = Came i.bdd.now (path_in i)
+
+-- the walk t is s after a step: the next path over the same words, and the same refusal
+pub record Moved (s t : BddPathIterator) : Type 0 where
+  pub words : t.bdd ≡ s.bdd
+  pub path : path_in t ≡ next_path s.bdd.now (path_in s)
+  pub refusal : refusal_in t ≡ refusal_in s
+
+-- what a step of the walk s gives, and the walk t afterwards
+pub record Steps (s : BddPathIterator) (r : Option BddPartialValuation) (t : BddPathIterator) : Type 0 where
+  pub says : path_step_reply r ≡ replied (step_of s.bdd.now (path_in s))
+  pub moves : Moved s t

@@ -71,7 +71,7 @@ fn wrong_rows_are_objected_to() {
     assert_eq!(check(&rows(good)[0]), Ok(()));
     for (from, to) in [
         ("`inspect` |", "`inspects` |"),
-        (": `inspects`", ": `inspected`"),
+        (": `inspects`", ": `inspecting`"),
         (": `inspect-sound`", ""),
         ("inspect-sound", "inspect-loud"),
         ("table/inspect-own-link", "table/none"),

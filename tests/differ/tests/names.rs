@@ -57,18 +57,18 @@ fn definitions_are_told_from_other_lines() {
 
 #[test]
 fn wrong_rows_are_objected_to() {
-    let good = row("LIMIT", "crates/refusal/src/lib.rt", "LIMIT");
+    let good = row("LIMIT", "crates/refusal/specs/Number.antt", "LIMIT");
     assert_eq!(check(&root(), &good), Ok(()));
-    for wrong in [row("a", "crates/refusal/src/lib.rt", "LIMITS"), row("b", "crates/refusal/src", "LIMIT"), row("c", "absent.rt", "LIMIT")]
+    for wrong in [row("a", "crates/refusal/specs/Number.antt", "LIMITS"), row("b", "crates/refusal/specs", "LIMIT"), row("c", "absent.rt", "LIMIT")]
     {
         assert!(check(&root(), &wrong).is_err(), "{wrong:?}");
     }
-    assert!(check(&root(), &row("d", "tests/../crates/refusal/src/lib.rt", "LIMIT")).is_err());
+    assert!(check(&root(), &row("d", "tests/../crates/refusal/specs/Number.antt", "LIMIT")).is_err());
 }
 
 #[test]
 fn a_document_with_too_few_rows_is_objected_to() {
-    let line = |term: &str| format!("| {term} | `crates/refusal/src/lib.rt` | `{term}` |\n");
+    let line = |term: &str| format!("| {term} | `crates/refusal/specs/Number.antt` | `{term}` |\n");
     let nine: String = REFUSALS.iter().map(|term| line(term)).collect();
     let full = nine.clone() + &line("LIMIT").repeat(LEAST_ROWS - 9);
     assert_eq!(objections(&full), Vec::<String>::new());

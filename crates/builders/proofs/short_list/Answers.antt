@@ -1,9 +1,6 @@
-use mathlib.Core.Path.{refl}
-use Rattle.builders.proofs.ListLaws.{short-case, short-clause}
+use Rattle.std.proofs.Common.{ap, ◌∙◌, length, ltb, ◌*◌}
+use Rattle.builders.proofs.ListLaws.{short-words}
 use Rattle.builders.proofs.short_list.Goals as goal
 
-pub returns-then-cases : goal.returns-then-cases
-returns-then-cases c = short-case _ _ _ _ c.if-cases.true refl
-
 pub returns : goal.returns
-returns c = short-clause _ _ _ _ c.if-cases.false refl
+returns g c = ap (λ k. ltb (length c.args.list.now) (k * c.args.count)) (c.WORDS.ensures ∙ g.met.E.Entries.words_are) ∙ short-words _ _ _

@@ -6,41 +6,35 @@ use Rattle.cover.proofs.+first_differing.Goals as goal
 pub returns-then-level-n : goal.returns-then-level-n
 returns-then-level-n t c = none_left _ _ _ _ _ _ c.if-level-n.true
 
-pub next_node-low-requires : goal.next_node-low-requires
-next_node-low-requires t c = omega (arith, c.requires.long, left-lies _ _ _ _ _ _ c.requires)
+pub step_to-low-requires : goal.step_to-low-requires
+step_to-low-requires t c = omega (arith, c.requires.long, left-lies _ _ _ _ _ _ c.requires)
 
-pub next_node-other_low-requires : goal.next_node-other_low-requires
-next_node-other_low-requires t c = omega (arith, c.requires.long, right-lies _ _ _ _ _ _ c.requires)
+pub step_to-other_low-requires : goal.step_to-other_low-requires
+step_to-other_low-requires t c = omega (arith, c.requires.long, right-lies _ _ _ _ _ _ c.requires)
 
-pub next_node-high-requires : goal.next_node-high-requires
-next_node-high-requires t c = omega (arith, c.requires.long, left-lies _ _ _ _ _ _ c.requires)
+pub step_to-high-requires : goal.step_to-high-requires
+step_to-high-requires t c = omega (arith, c.requires.long, left-lies _ _ _ _ _ _ c.requires)
 
-pub next_node-other_high-requires : goal.next_node-other_high-requires
-next_node-other_high-requires t c = omega (arith, c.requires.long, right-lies _ _ _ _ _ _ c.requires)
-
-pub overflow_add-level : goal.overflow_add-level
-overflow_add-level t c = omega (arith, c.requires.marks, c.requires.within)
+pub step_to-other_high-requires : goal.step_to-other_high-requires
+step_to-other_high-requires t c = omega (arith, c.requires.long, right-lies _ _ _ _ _ _ c.requires)
 
 pub first_differing-requires : goal.first_differing-requires
-first_differing-requires t c = (omega (arith, c.decreases, c.if-level-n.false, c.requires.within), paired_below _ _ _ _ _ _ c.requires c.if-level-n.false true _ _ c.next_node-high.ensures c.next_node-other_high.ensures)
+first_differing-requires t c = (omega (arith, c.decreases, c.if-level-n.false, c.requires.within), paired_below _ _ _ _ _ _ c.requires c.if-level-n.false true _ _ c.step_to-high.ensures c.step_to-other_high.ensures)
 
 pub overflow_mul-result : goal.overflow_mul-result
-overflow_mul-result t c = omega (arith, first_fits _ _ _ _ _ _ c.requires c.if-level-n.false true _ _ c.next_node-high.ensures c.next_node-other_high.ensures _ c.first_differing.ensures)
+overflow_mul-result t c = omega (arith, first_fits _ _ _ _ _ _ c.requires c.if-level-n.false true _ _ c.step_to-high.ensures c.step_to-other_high.ensures _ c.first_differing.ensures)
 
 pub overflow_add-result : goal.overflow_add-result
-overflow_add-result t c = omega (arith, first_fits _ _ _ _ _ _ c.requires c.if-level-n.false true _ _ c.next_node-high.ensures c.next_node-other_high.ensures _ c.first_differing.ensures)
+overflow_add-result t c = omega (arith, first_fits _ _ _ _ _ _ c.requires c.if-level-n.false true _ _ c.step_to-high.ensures c.step_to-other_high.ensures _ c.first_differing.ensures)
 
 pub returns-then-low-other_low : goal.returns-then-low-other_low
-returns-then-low-other_low t c = first-high _ _ _ _ _ _ c.requires c.if-level-n.false _ _ c.next_node-low.ensures c.next_node-other_low.ensures c.if-low-other_low.true _ _ c.next_node-high.ensures c.next_node-other_high.ensures _ c.first_differing.ensures
-
-pub overflow_add-level-2 : goal.overflow_add-level-2
-overflow_add-level-2 t c = omega (arith, c.requires.marks, c.requires.within)
+returns-then-low-other_low t c = first-high _ _ _ _ _ _ c.requires c.if-level-n.false _ _ c.step_to-low.ensures c.step_to-other_low.ensures c.if-low-other_low.true _ _ c.step_to-high.ensures c.step_to-other_high.ensures _ c.first_differing.ensures
 
 pub first_differing-requires-2 : goal.first_differing-requires-2
-first_differing-requires-2 t c = (omega (arith, c.decreases, c.if-level-n.false, c.requires.within), paired_below _ _ _ _ _ _ c.requires c.if-level-n.false false _ _ c.next_node-low.ensures c.next_node-other_low.ensures)
+first_differing-requires-2 t c = (omega (arith, c.decreases, c.if-level-n.false, c.requires.within), paired_below _ _ _ _ _ _ c.requires c.if-level-n.false false _ _ c.step_to-low.ensures c.step_to-other_low.ensures)
 
 pub overflow_mul-result-2 : goal.overflow_mul-result-2
-overflow_mul-result-2 t c = omega (arith, first_fits _ _ _ _ _ _ c.requires c.if-level-n.false false _ _ c.next_node-low.ensures c.next_node-other_low.ensures _ c.first_differing-2.ensures)
+overflow_mul-result-2 t c = omega (arith, first_fits _ _ _ _ _ _ c.requires c.if-level-n.false false _ _ c.step_to-low.ensures c.step_to-other_low.ensures _ c.first_differing-2.ensures)
 
 pub returns : goal.returns
-returns t c = first-low _ _ _ _ _ _ c.requires c.if-level-n.false _ _ c.next_node-low.ensures c.next_node-other_low.ensures c.if-low-other_low.false _ c.first_differing-2.ensures
+returns t c = first-low _ _ _ _ _ _ c.requires c.if-level-n.false _ _ c.step_to-low.ensures c.step_to-other_low.ensures c.if-low-other_low.false _ c.first_differing-2.ensures

@@ -1,9 +1,12 @@
-use Rattle.cover.proofs.CompareLaws.{bringing, brings}
+use Rattle.cover.proofs.CompareLaws.{bringing, brings, roomy}
 use Rattle.cover.proofs.bring.Goals as goal
 
-pub carry-requires : goal.carry-requires
-carry-requires c = bringing _ _ _ _ _ _ _ c.requires _ c.put_constants.auto.out c.put_constants.ensures.out_after c.put_constants.ensures.beyond _ c.wider-held.ensures _ c.zero_u32_from.ensures c.zero_u32_from.auto.buffer
+pub carry-carried-requires : goal.carry-carried-requires
+carry-carried-requires c = rw c.plain-way.ensures (bringing _ _ _ _ _ _ _ c.args.table.sound c.requires _ c.put_constants.auto.out c.put_constants.ensures.out_after c.put_constants.ensures.beyond _ c.max-held.ensures)
+
+pub unreachable-requires : goal.unreachable-requires
+unreachable-requires c = roomy _ _ _ _ _ _ _ c.args.table.sound c.requires _ c.put_constants.auto.out c.put_constants.ensures.out_after c.put_constants.ensures.beyond _ c.max-held.ensures (rw c.plain-way.ensures at c.in-None.ensures)
 
 pub returns : goal.returns
-returns c = brings _ _ _ _ _ _ _ c.requires _ c.put_constants.auto.out c.put_constants.ensures.out_after c.put_constants.ensures.beyond _ c.wider-held.ensures _ c.zero_u32_from.ensures c.zero_u32_from.auto.buffer
-    c.carry.new.out c.carry.new.memo c.carry.auto.out c.carry.result c.carry.ensures
+returns c = brings _ _ _ _ _ _ _ c.args.table.sound c.requires _ c.put_constants.auto.out c.put_constants.ensures.out_after c.put_constants.ensures.beyond _ c.max-held.ensures
+    c.carry-carried.new.out c.carry-carried.new.memo c.carry-carried.auto.out _ _ (rw c.plain-way.ensures at c.in-Some.ensures)

@@ -1,57 +1,42 @@
-use native.Mathlib.Omega.{arith}
-use mathlib.Core.Path.{◌∙◌}
-use Rattle.dividing.proofs.FitLaws.{next-mark, next-less}
-use Rattle.dividing.proofs.RestLaws.{ask_copy_in, none_left, ask_and_not, left_over, ask_support, rest_start, ask_step, rest_end, rest_again, rest_over}
+use Rattle.std.proofs.Common.{rules, ◌≡◌, subst, ap, ◌∙◌}
+use Rattle.theory.specs.Tree.{support_of}
+use Rattle.held.specs.Trees.{tree_of}
+use Rattle.held.proofs.HeldLaws.{tree-deep}
+use Rattle.valuation.specs.Marks.{marks_left}
+use Rattle.dividing.proofs.FitLaws.{support_left}
+use Rattle.dividing.proofs.RestLaws.{none_left, left_over, rest_start, rest_again, rest_over, rest_end}
 use Rattle.dividing.proofs.rest_of.Goals as goal
 
-pub copy_in-requires : goal.copy_in-requires
-copy_in-requires c = ask_copy_in _ _ _ _ _ _ c.requires
+pub returns-then-cases-eq0 : goal.returns-then-cases-eq0
+returns-then-cases-eq0 c =
+    none_left c.args.function.n c.args.function.room _ (tree-deep _ _ _ _ c.args.function.canonical) c.requires.coring.inner _ c.requires.coring.count c.if-cases-eq0.true _ _ c.copy_to.ensures
 
-pub returns-then-most-eq0 : goal.returns-then-most-eq0
-returns-then-most-eq0 c = let parts = none_left _ _ _ _ _ _ c.requires _ c.copy_in.ensures.w_unchanged c.copy_in.ensures.copies c.if-most-eq0.true in
-    record { w_unchanged = parts.0; rests = parts.1 }
+pub returns-in_err-count : goal.returns-in_err-count
+returns-in_err-count c =
+    left_over c.args.function.n c.args.function.room _ (tree-deep _ _ _ _ c.args.function.canonical) c.requires.coring.inner _ c.requires.coring.count c.if-cases-eq0.false
+    _ c.requires.coring.is c.in_err-count.ensures _ _ (search rules)
 
-pub and_not_in-requires : goal.and_not_in-requires
-and_not_in-requires c = let a = ask_and_not _ _ _ _ _ _ c.requires in
-    a
+pub loop-m-init : goal.loop-m-init
+loop-m-init c =
+    rest_start _ _ _ (tree-deep _ _ _ _ c.args.function.canonical) c.requires.coring.inner _ c.requires.coring.count c.if-cases-eq0.false
+    c.args.function.canonical.marks c.args.function.canonical.some c.args.function.canonical.few
+    _ c.requires.coring.is _ _ c.in_ok-count.ensures _
+    (support_left _ _ c.args.function.canonical.marks _ (subst (λ n. c.support.result ≡ support_of n (tree_of c.args.core)) c.requires.coring.marks c.support.ensures)
+    _ (ap marks_left c.into_iter-m-iterator.ensures.into_iter_gives ∙ c.marks_of-m-items.ensures))
 
-pub returns-in_default : goal.returns-in_default
-returns-in_default c = let parts = left_over _ _ _ _ _ _ c.requires c.if-most-eq0.false _ c.and_not_in.ensures.w_unchanged c.and_not_in.auto.w _ c.and_not_in.ensures.joins c.in_default.is in
-    record { w_unchanged = parts.0; rests = parts.1 }
+pub returns-in_err-count-2 : goal.returns-in_err-count-2
+returns-in_err-count-2 c =
+    rest_over _ _ _ (tree-deep _ _ _ _ c.args.function.canonical) c.requires.coring.inner _ c.requires.coring.count c.if-cases-eq0.false
+    c.args.function.canonical.marks c.args.function.canonical.some c.args.function.canonical.few
+    _ _ _ c.loop-m.invariant _ _ c.in-Some.ensures.steps c.in_err-count-2.ensures _ _ (search rules)
 
-pub support_in-rest-requires : goal.support_in-rest-requires
-support_in-rest-requires c = ask_support _ _ _ _ _ _ c.requires c.if-most-eq0.false _ c.and_not_in.ensures.w_unchanged c.and_not_in.auto.w c.and_not_in.result c.and_not_in.ensures.joins
-
-pub loop-rest-init : goal.loop-rest-init
-loop-rest-init c = rest_start _ _ _ _ _ _ c.requires c.if-most-eq0.false _ c.and_not_in.ensures.w_unchanged c.and_not_in.auto.w _ c.and_not_in.ensures.joins _ c.in-Count.is _ c.support_in-rest.ensures
-
-pub overflow_cast-m : goal.overflow_cast-m
-overflow_cast-m c = record { fits = omega (arith, (next-mark _ _ c.requires.frame.lies.marks c.loop-rest.invariant.small c.loop-rest-test.true).less, c.requires.frame.lies.marks) }
-
-pub rest_step-requires : goal.rest_step-requires
-rest_step-requires c = let a = ask_step _ _ _ _ _ _ c.requires c.if-most-eq0.false _ c.and_not_in.ensures.w_unchanged c.and_not_in.auto.w _ c.and_not_in.ensures.joins _ c.in-Count.is _ c.support_in-rest.ensures _ _ _ c.loop-rest.invariant in
-    (a.0, a.1, (next-mark _ _ c.requires.frame.lies.marks c.loop-rest.invariant.small c.loop-rest-test.true).less)
-
-pub shape_of-w-in_default-rest_step : goal.shape_of-w-in_default-rest_step
-shape_of-w-in_default-rest_step c = c.rest_step.auto.w ∙ c.loop-rest.invariant.long ∙ c.and_not_in.auto.w
-
-pub returns-in_default-rest_step : goal.returns-in_default-rest_step
-returns-in_default-rest_step c = let parts = rest_over _ _ _ _ _ _ c.requires c.if-most-eq0.false _ c.and_not_in.ensures.w_unchanged c.and_not_in.auto.w _ c.and_not_in.ensures.joins _ c.in-Count.is _ c.support_in-rest.ensures _ _ _ c.loop-rest.invariant _ (next-mark _ _ c.requires.frame.lies.marks c.loop-rest.invariant.small c.loop-rest-test.true) _ c.rest_step.ensures.w_unchanged c.rest_step.auto.w _ c.rest_step.ensures.rest_steps c.in_default-rest_step.is in
-    record { w_unchanged = parts.0; rests = parts.1 }
-
-pub set_bit-rest-requires : goal.set_bit-rest-requires
-set_bit-rest-requires c = omega (arith, (next-mark _ _ c.requires.frame.lies.marks c.loop-rest.invariant.small c.loop-rest-test.true).less, c.requires.frame.lies.marks)
-
-pub loop-rest-smaller : goal.loop-rest-smaller
-loop-rest-smaller c = next-less _ _ _ _ (next-mark _ _ c.requires.frame.lies.marks c.loop-rest.invariant.small c.loop-rest-test.true) c.set_bit-rest.ensures
-
-pub loop-rest-preserved : goal.loop-rest-preserved
-loop-rest-preserved c = rest_again _ _ _ _ _ _ c.requires c.if-most-eq0.false _ c.and_not_in.ensures.w_unchanged c.and_not_in.auto.w _ c.and_not_in.ensures.joins _ c.in-Count.is _ c.support_in-rest.ensures _ _ _ c.loop-rest.invariant
-    _ (next-mark _ _ c.requires.frame.lies.marks c.loop-rest.invariant.small c.loop-rest-test.true) _ c.rest_step.ensures.w_unchanged c.rest_step.auto.w _ c.rest_step.ensures.rest_steps _ c.in-Count-rest_step.is _ c.set_bit-rest.ensures
-
-pub shape_of-w : goal.shape_of-w
-shape_of-w c = c.loop-rest.invariant.long ∙ c.and_not_in.auto.w
+pub loop-m-preserved : goal.loop-m-preserved
+loop-m-preserved c =
+    rest_again _ _ _ (tree-deep _ _ _ _ c.args.function.canonical) c.requires.coring.inner _ c.requires.coring.count c.if-cases-eq0.false
+    c.args.function.canonical.marks c.args.function.canonical.some c.args.function.canonical.few
+    _ _ _ c.loop-m.invariant _ _ c.in-Some.ensures.steps _ _ c.in_ok-count-2.ensures
 
 pub returns : goal.returns
-returns c = let parts = rest_end _ _ _ _ _ _ c.requires c.if-most-eq0.false _ c.and_not_in.ensures.w_unchanged c.and_not_in.auto.w _ c.and_not_in.ensures.joins _ c.in-Count.is _ c.support_in-rest.ensures _ _ _ c.loop-rest.invariant c.loop-rest-test.false in
-    record { w_unchanged = parts.0; rests = parts.1 }
+returns c =
+    rest_end _ _ _ (tree-deep _ _ _ _ c.args.function.canonical) c.requires.coring.inner _ c.requires.coring.count c.if-cases-eq0.false
+    c.args.function.canonical.marks c.args.function.canonical.some c.args.function.canonical.few _ _ _ c.in-None.ensures.steps.0 c.loop-m.invariant

@@ -1,10 +1,12 @@
-use mathlib.Core.Path.{ap}
-use Rattle.refusal.specs.Verdict.{gives, replied}
-use Rattle.replies.specs.Replies.{part_values}
-use Rattle.exports.specs.Exports.{posts}
-use Rattle.replies.proofs.ReplyLaws.{exported}
+use Rattle.std.proofs.Common.{ap, ◌∙◌, ◌∷◌, List, ℕ}
+use Rattle.refusal.specs.Verdict.{replied}
+use Rattle.replies.specs.Replies.{buffer_with, part_values}
 use Rattle.exports.proofs.collartug_choose_posting.Goals as goal
 
 pub returns : goal.returns
 unfolding replied
-returns c = exported _ _ _ _ _ (posts c.args.dnf.now c.args.cnf.now) c.write_reply.ensures c.part_written.ensures (ap (λ p. gives (part_values p)) c.choose_posting.ensures.result_value)
+returns c = (
+  c.write_answer.ensures.returned,
+  c.write_answer.ensures.written
+      ∙ ap (λ (w : List ℕ). buffer_with (0 ∷ 0 ∷ w) c.args.reply.now) (c.of.ensures ∙ ap part_values c.choose_posting-part.ensures.result_value),
+)

@@ -1,11 +1,9 @@
-use Rattle.theory.specs.Clause.{clause}
-use Rattle.valuation.specs.Valuation.{says_clause}
-use mathlib.Core.Path.{ap₂}
-use mathlib.Core.List.{[], ◌∷◌}
-use Rattle.refusal.specs.Verdict.{gives, replied}
-use Rattle.replies.proofs.ReplyLaws.{exported}
+use Rattle.std.proofs.Common.{◌∙◌, ◌∷◌, [], ℕ}
+use Rattle.std.proofs.Math.Path.{ap₂}
+use Rattle.refusal.specs.Verdict.{replied}
+use Rattle.replies.specs.Replies.{buffer_with}
 use Rattle.exports.proofs.collartug_empty.Goals as goal
 
 pub returns : goal.returns
 unfolding replied
-returns c = exported _ _ _ _ _ (says_clause (clause 0 0)) c.write_reply.ensures c.pair_written.ensures (ap₂ (λ f v. gives (f ∷ v ∷ [])) c.empty-v.ensures.0 c.empty-v.ensures.1)
+returns c = (c.write_answer.ensures.returned, c.write_answer.ensures.written ∙ ap₂ (λ (f v : ℕ). buffer_with (0 ∷ 0 ∷ f ∷ v ∷ []) c.args.reply.now) c.empty.ensures.0 c.empty.ensures.1)

@@ -1,30 +1,18 @@
 -- `recall`: another count, or the words compared.
-use mathlib.Core.Path.{refl}
-use native.Mathlib.Omega.{arith}
-use Rattle.theory.proofs.Truths.{clash}
-use Rattle.harmless.proofs.SlotLaws.{inside, all_in, ask_same, hit}
+use Rattle.std.proofs.Common.{arith, ◌≡◌, ◌+◌, ◌-◌, ◌*◌, take, drop, sym, ap, ◌∙◌}
+use Rattle.theory.specs.Words.{stride}
+use Rattle.harmless.proofs.SlotLaws.{words_equal, inside, hit}
 use Rattle.harmless.proofs.recall.Goals as goal
 
-pub slot_of-at-requires : goal.slot_of-at-requires
-slot_of-at-requires c = c.requires.1
+pub bounds-known-at : goal.bounds-known-at
+bounds-known-at c = omega (arith, c.requires.long, inside _ _ _ _ c.args.function.canonical _ c.requires.long _ c.slot_of-at.ensures)
 
-pub offset_bounds-w-at : goal.offset_bounds-w-at
-offset_bounds-w-at c = omega (arith, inside _ _ _ _ c.requires.1 _ c.slot_of-at.ensures, all_in _ _ _ _ c.requires.1 _ c.slot_of-at.ensures)
-
-pub bounds-w-at : goal.bounds-w-at
-bounds-w-at c = omega (arith, inside _ _ _ _ c.requires.1 _ c.slot_of-at.ensures, all_in _ _ _ _ c.requires.1 _ c.slot_of-at.ensures)
-
-pub returns-then-w-at : goal.returns-then-w-at
-returns-then-w-at c = λ e. absurd (clash e refl)
-
-pub overflow_add-at : goal.overflow_add-at
-overflow_add-at c = omega (arith, inside _ _ _ _ c.requires.1 _ c.slot_of-at.ensures, all_in _ _ _ _ c.requires.1 _ c.slot_of-at.ensures)
-
-pub overflow_mul-k : goal.overflow_mul-k
-overflow_mul-k c = omega (arith, c.requires.1.fits, c.requires.1.room, c.requires.1.few)
-
-pub same_words-requires : goal.same_words-requires
-same_words-requires c = ask_same _ _ _ _ c.requires.1 _ c.slot_of-at.ensures
+pub slice_bounds-eq-end : goal.slice_bounds-eq-end
+slice_bounds-eq-end c = omega (arith, c.requires.long, c.args.function.canonical.fits, inside _ _ _ _ c.args.function.canonical _ c.requires.long _ c.slot_of-at.ensures)
 
 pub returns : goal.returns
-returns c = hit _ _ _ _ c.requires.1 _ c.slot_of-at.ensures c.requires.0 c.if-w-at.false _ c.same_words.ensures
+returns c = λ e.
+    let at = c.slot_of-at.result in
+    let n : at + 1 + stride * c.args.function.count - (at + 1) ≡ stride * c.args.function.count = omega arith in
+    hit _ _ _ _ c.args.function.canonical _ c.requires.long _ c.slot_of-at.ensures c.requires.remembers c.if-known-at.false
+    (ap (λ i. take i (drop (at + 1) c.args.known.now)) (sym n) ∙ words_equal _ _ (sym c.eq.ensures ∙ e))

@@ -1,20 +1,14 @@
-use Rattle.join.proofs.SplitLaws.{left-lies, right-lies, known-asks, split-known, undecided, both-placed, parted}
+use Rattle.join.proofs.SplitLaws.{known-asks, known_has, both-placed, parted}
 use Rattle.join.proofs.split.Goals as goal
 
-pub step_to-left-requires : goal.step_to-left-requires
-step_to-left-requires c = left-lies _ _ _ _ _ _ c.requires
+pub known-requires : goal.known-requires
+known-requires c = known-asks _ _ _ _ _ _ c.requires _ _ c.step_to-left.ensures c.step_to-right.ensures
 
-pub step_to-right-requires : goal.step_to-right-requires
-step_to-right-requires c = right-lies _ _ _ _ _ _ c.requires
-
-pub known-found-requires : goal.known-found-requires
-known-found-requires c = known-asks _ _ _ _ _ _ c.requires _ _ c.step_to-left.ensures c.step_to-right.ensures
-
-pub returns-in-At : goal.returns-in-At
-returns-in-At c = split-known _ _ _ _ _ _ c.requires _ _ c.step_to-left.ensures c.step_to-right.ensures _ c.known-found.ensures _ c.in-At.is
+pub returns-in-Some : goal.returns-in-Some
+returns-in-Some c = known_has _ _ _ _ _ _ c.requires _ _ c.step_to-left.ensures c.step_to-right.ensures _ c.in-Some.ensures
 
 pub cut_at-requires : goal.cut_at-requires
 cut_at-requires c = both-placed _ _ _ _ _ _ c.requires _ _ c.step_to-left.ensures c.step_to-right.ensures
 
-pub returns : goal.returns
-returns c = parted _ _ _ _ _ _ c.requires _ c.step_to-left.ensures c.step_to-right.ensures (undecided _ _ _ _ _ _ c.requires _ _ c.step_to-left.ensures c.step_to-right.ensures _ c.known-found.ensures c.in_default.is) _ c.cut_at.ensures
+pub returns-in-None : goal.returns-in-None
+returns-in-None c = parted _ _ _ _ _ _ c.requires _ c.step_to-left.ensures c.step_to-right.ensures c.in-None.ensures _ c.cut_at.ensures

@@ -1,11 +1,17 @@
-use mathlib.Core.Path.{refl}
-use Rattle.milling.proofs.MillLaws.{builds-dnf, builds-cnf, built_as}
+use Rattle.std.proofs.Common.{refl, ap, ◌∙◌}
+use Rattle.refusal.specs.Buffers.{output_after}
+use Rattle.refusal.specs.Verdict.{Verdict, replied}
+use Rattle.milling.proofs.MillLaws.{builds-dnf, builds-cnf}
 use Rattle.milling.proofs.build.Goals as goal
 
-pub returns-then-dnf : goal.returns-then-dnf
-returns-then-dnf c = let parts = built_as _ _ (builds-dnf c.args.n c.args.count c.args.clauses.now c.args.dnf c.if-dnf.true _ _ c.requires refl) _ _ _ c.mk_dnf.ensures.result_value c.mk_dnf.ensures.out_after in
-    record { result_value = parts.0; nodes_after = parts.1 }
+pub returns-in-Dnf-clause-result_value : goal.returns-in-Dnf-clause-result_value
+returns-in-Dnf-clause-result_value c = c.mk_dnf.ensures.result_value ∙ ap replied (builds-dnf c.args.n c.args.count c.args.clauses.now c.args.form c.in-Dnf.is _ _ c.requires refl)
 
-pub returns-else-dnf : goal.returns-else-dnf
-returns-else-dnf c = let parts = built_as _ _ (builds-cnf c.args.n c.args.count c.args.clauses.now c.args.dnf c.if-dnf.false _ _ c.requires refl) _ _ _ c.mk_cnf.ensures.result_value c.mk_cnf.ensures.out_after in
-    record { result_value = parts.0; nodes_after = parts.1 }
+pub returns-in-Dnf-clause-nodes_after : goal.returns-in-Dnf-clause-nodes_after
+returns-in-Dnf-clause-nodes_after c = c.mk_dnf.ensures.out_after ∙ ap (λ (v : Verdict). output_after 0 v c.args.nodes.now) (builds-dnf c.args.n c.args.count c.args.clauses.now c.args.form c.in-Dnf.is _ _ c.requires refl)
+
+pub returns-in-Cnf-clause-result_value : goal.returns-in-Cnf-clause-result_value
+returns-in-Cnf-clause-result_value c = c.mk_cnf.ensures.result_value ∙ ap replied (builds-cnf c.args.n c.args.count c.args.clauses.now c.args.form c.in-Cnf.is _ _ c.requires refl)
+
+pub returns-in-Cnf-clause-nodes_after : goal.returns-in-Cnf-clause-nodes_after
+returns-in-Cnf-clause-nodes_after c = c.mk_cnf.ensures.out_after ∙ ap (λ (v : Verdict). output_after 0 v c.args.nodes.now) (builds-cnf c.args.n c.args.count c.args.clauses.now c.args.form c.in-Cnf.is _ _ c.requires refl)

@@ -1,15 +1,8 @@
-use mathlib.Core.Path.{refl}
-use Rattle.pool.proofs.PoolLaws.{beyond_push, push_full, push_made}
+use Rattle.pool.proofs.PoolLaws.{push_full, push_made}
 use Rattle.pool.proofs.push_node.Goals as goal
 
-pub returns-then-count-room : goal.returns-then-count-room
-returns-then-count-room c = record {
-  answers = push_full _ _ _ _ _ _ c.requires c.if-count-room.true;
-  beyond = λ i h. refl;
-}
+pub returns-then-count-room-clause-answers : goal.returns-then-count-room-clause-answers
+returns-then-count-room-clause-answers c = push_full _ _ _ _ _ _ c.requires c.if-count-room.true
 
-pub returns : goal.returns
-returns c = record {
-  answers = push_made _ _ _ _ _ _ c.requires c.if-count-room.false _ c.put_node.ensures;
-  beyond = beyond_push c.args.room c.args.count c.args.variable.0 c.args.low.0 c.args.high.0 c.args.bdd.now _ c.if-count-room.false c.put_node.ensures;
-}
+pub returns-clause-answers : goal.returns-clause-answers
+returns-clause-answers c = push_made _ _ _ _ _ _ c.requires c.if-count-room.false _ c.put_node.ensures

@@ -1,10 +1,6 @@
-use Prim.Native.Nat.{◌-◌, ◌≤◌}
 use Rattle.sheet.specs.Sheet.{header_bytes}
 use Rattle.sheet.proofs.ByteLaws.{Filled}
 use Rattle.sheet.proofs.fill_u32.Given as goal
 
 abbrev pub invariant-loop-i : goal.invariant-loop-i
-invariant-loop-i l = (l.i ≤ l.count) × Filled 4 l.bytes header_bytes l.initial.out l.i l.out
-
-abbrev pub decreases-loop-i : goal.decreases-loop-i
-decreases-loop-i l = l.count - l.i
+invariant-loop-i l = Filled 4 l.bytes header_bytes l.initial.out l.i l.out

@@ -1,57 +1,22 @@
 -- `write_short`: the memory emptied, the table reduced, its short list made.
-use native.Mathlib.Omega.{arith}
-use Prim.Native.Nat.{ℕ}
-use lib.ListN.{length-replicate}
-use Rattle.short.proofs.EntryLaws.{few, mem-within, first-within, ask_reduce, table-over, small, ask_list, done-nodes, done_many, done-clauses}
+use Rattle.held.proofs.HeldLaws.{canonical_of}
+use Rattle.short.proofs.EntryLaws.{none_known, table_over, tab, done_nodes, done_many, done_clauses}
 use Rattle.short.proofs.write_short.Goals as goal
 
-pub overflow_mul-block-2 : goal.overflow_mul-block-2
-overflow_mul-block-2 c = omega (arith, few _ _ _ _ _ _ c.requires _ c.wider-wide.ensures)
-
-pub overflow_add-first : goal.overflow_add-first
-overflow_add-first c = omega (arith, c.requires.table.marks)
-
-pub overflow_mul-first : goal.overflow_mul-first
-overflow_mul-first c = omega (arith, first-within _ _ _ _ _ _ c.requires _ c.wider-wide.ensures)
-
-pub overflow_cast-q : goal.overflow_cast-q
-overflow_cast-q c = record { fits = omega (arith, c.requires.rooms.few) }
-
-pub overflow_mul-q : goal.overflow_mul-q
-overflow_mul-q c = omega (arith, c.requires.table.marks)
-
-pub overflow_add-q : goal.overflow_add-q
-overflow_add-q c = omega (arith, c.requires.table.marks)
-
-pub overflow_mul-q-2 : goal.overflow_mul-q-2
-overflow_mul-q-2 c = omega (arith, mem-within _ _ _ _ _ _ c.requires _ c.wider-wide.ensures)
-
-pub clear_in-requires : goal.clear_in-requires
-clear_in-requires c = (omega arith, omega (arith, first-within _ _ _ _ _ _ c.requires _ c.wider-wide.ensures))
-
-pub overflow_mul-wide : goal.overflow_mul-wide
-overflow_mul-wide c = omega (arith, few _ _ _ _ _ _ c.requires _ c.wider-wide.ensures)
-
-pub overflow_add-first-2 : goal.overflow_add-first-2
-overflow_add-first-2 c = omega (arith, first-within _ _ _ _ _ _ c.requires _ c.wider-wide.ensures)
-
-pub reduce_in-requires : goal.reduce_in-requires
-reduce_in-requires c = ask_reduce _ _ _ _ _ _ c.requires _ c.wider-wide.ensures _ c.clear_in.auto.w c.clear_in.ensures.w_after _ (length-replicate {A = ℕ} 4096 0)
-
 pub returns-in_default : goal.returns-in_default
-returns-in_default c = table-over _ _ _ _ _ _ c.requires _ c.wider-wide.ensures _ c.clear_in.auto.w c.clear_in.ensures.w_after _ c.reduce_in.auto.w c.reduce_in.ensures.kept c.reduce_in.result c.reduce_in.ensures.canon_left _ c.in_default.is c.args.out.now c.args.out.now
+returns-in_default c = rw c.over.ensures (table_over _ _ _ _ _ _ c.reduce-reduced.ensures _ c.in_default.is c.args.out.now c.args.out.now)
 
-pub overflow_cast-k : goal.overflow_cast-k
-overflow_cast-k c = record { fits = omega (arith, small _ _ _ _ _ _ c.requires _ c.wider-wide.ensures _ c.clear_in.auto.w c.clear_in.ensures.w_after _ c.reduce_in.auto.w c.reduce_in.ensures.kept c.reduce_in.result c.reduce_in.ensures.canon_left _ c.in-Count.is, c.requires.rooms.few) }
+pub invariant_of-function : goal.invariant_of-function
+invariant_of-function c = record { canonical = canonical_of _ _ _ _ _ (tab _ _ _ _ _ _ c.reduce-reduced.ensures _ c.in-Ok.is) c.args.table.sound.marks c.requires.rooms.some c.requires.rooms.few }
 
-pub short_list-requires : goal.short_list-requires
-short_list-requires c = ask_list _ _ _ _ _ _ c.requires _ c.wider-wide.ensures _ c.clear_in.auto.w c.clear_in.ensures.w_after _ c.reduce_in.auto.w c.reduce_in.ensures.kept c.reduce_in.result c.reduce_in.ensures.canon_left _ c.in-Count.is
+pub short_list-requires-clause-remembers : goal.short_list-requires-clause-remembers
+short_list-requires-clause-remembers c = none_known _ _ _ _ (c.fill.ensures.after (λ y e. e))
 
-pub returns-in-Clauses : goal.returns-in-Clauses
-returns-in-Clauses c = done-clauses _ _ _ _ _ _ c.requires _ c.wider-wide.ensures _ c.clear_in.auto.w c.clear_in.ensures.w_after _ c.reduce_in.auto.w c.reduce_in.ensures.kept c.reduce_in.result c.reduce_in.ensures.canon_left _ c.in-Count.is c.args.out.now _ c.short_list.auto.out _ c.short_list.ensures _ c.in-Clauses.is
+pub returns-in-Ok-short_list : goal.returns-in-Ok-short_list
+returns-in-Ok-short_list c = done_clauses _ _ _ _ _ _ c.reduce-reduced.ensures _ c.in-Ok.is _ _ c.short_list.auto.out _ c.in-Ok-short_list.ensures
 
-pub returns-in-Nodes : goal.returns-in-Nodes
-returns-in-Nodes c = done-nodes _ _ _ _ _ _ c.requires _ c.wider-wide.ensures _ c.clear_in.auto.w c.clear_in.ensures.w_after _ c.reduce_in.auto.w c.reduce_in.ensures.kept c.reduce_in.result c.reduce_in.ensures.canon_left _ c.in-Count.is c.args.out.now _ c.short_list.auto.out _ c.short_list.ensures c.in-Nodes.is
+pub returns-in-Err-Nodes : goal.returns-in-Err-Nodes
+returns-in-Err-Nodes c = rw c.over-in-Err-Nodes.ensures (done_nodes _ _ _ _ _ _ c.reduce-reduced.ensures _ c.in-Ok.is _ _ c.short_list.auto.out _ c.in-Err-Nodes.field-0-is c.in-Err-Nodes.ensures)
 
-pub returns-in-TooMany : goal.returns-in-TooMany
-returns-in-TooMany c = done_many _ _ _ _ _ _ c.requires _ c.wider-wide.ensures _ c.clear_in.auto.w c.clear_in.ensures.w_after _ c.reduce_in.auto.w c.reduce_in.ensures.kept c.reduce_in.result c.reduce_in.ensures.canon_left _ c.in-Count.is c.args.out.now _ c.short_list.auto.out _ c.short_list.ensures c.in-TooMany.is
+pub returns-in-Err-Clauses : goal.returns-in-Err-Clauses
+returns-in-Err-Clauses c = rw c.over-in-Err-Clauses.ensures (done_many _ _ _ _ _ _ c.reduce-reduced.ensures _ c.in-Ok.is _ _ c.short_list.auto.out _ c.in-Err-Clauses.field-0-is c.in-Err-Clauses.ensures)

@@ -1,98 +1,97 @@
-use native.Mathlib.Omega.{arith}
-use mathlib.Core.Path.{◌∙◌}
+use Rattle.std.proofs.Common.{rules, arith, suc, ◌*◌, refl, ◌∙◌}
+use Rattle.theory.specs.Words.{stride}
 use Rattle.valuation.specs.Valuation.{clause_of}
-use Rattle.solving.proofs.SolveLaws.{push_fits, when_false, when_true, numbers, ask_recall, recalled, ask_divide, over-divide, turn_start, ask_load, mark-fits, ask_remember, ended, ask_solve, part-nodes, turn_again}
+use Rattle.held.proofs.HeldLaws.{tree-deep, tab-of, tab-means, canonical_of}
+use Rattle.solving.proofs.SolveLaws.{frames_some, frames_deeper, when_false, when_true, inside, need_some, falls, mark_less, over_divide, none_done, part_done, part_over, fine, listed, side_tree, side_literals, never}
 use Rattle.solving.proofs.+solve.Goals as goal
 
-pub returns-then-kf-eq1 : goal.returns-then-kf-eq1
-returns-then-kf-eq1 t c = let parts = when_false _ _ _ _ (clause_of c.args.y) _ _ c.requires c.if-kf-eq1.true in
-    record { same = parts.0; still = parts.1.0; solves = parts.1.1 }
+pub returns-then-function-eq1 : goal.returns-then-function-eq1
+returns-then-function-eq1 t c = when_false _ _ _ _ _ (tab-of _ _ _ _ c.args.function.canonical) (clause_of c.args.y) _ _ _ c.requires.few c.requires.remembers c.if-function-eq1.true
 
-pub push_clause-requires : goal.push_clause-requires
-push_clause-requires t c = push_fits _ _ _ _ (clause_of c.args.y) _ _ c.requires
+pub returns-then-function-eq2 : goal.returns-then-function-eq2
+returns-then-function-eq2 t c = when_true _ _ _ _ _ (tab-of _ _ _ _ c.args.function.canonical) (clause_of c.args.y) _ _ _ c.requires.few c.requires.remembers c.if-function-eq2.true _ _ c.push_clause.ensures.few c.push_clause.ensures.pushes
 
-pub shape_of-out-then-kf-eq2 : goal.shape_of-out-then-kf-eq2
-shape_of-out-then-kf-eq2 t c = c.push_clause.auto.out
+pub split_at_mut-frame-requires : goal.split_at_mut-frame-requires
+split_at_mut-frame-requires t c =
+    let i = inside _ _ _ _ c.args.function.canonical c.if-function-eq1.false c.if-function-eq2.false in
+    frames_some (3 * (stride * c.args.function.room)) _ _ (need_some _ _ (tree-deep _ _ _ _ c.args.function.canonical) i) c.requires.deep
 
-pub returns-then-kf-eq2 : goal.returns-then-kf-eq2
-returns-then-kf-eq2 t c = let parts = when_true _ _ _ _ (clause_of c.args.y) _ _ c.requires c.if-kf-eq2.true _ _ c.push_clause.ensures in
-    record { same = parts.0; still = parts.1.0; solves = parts.1.1 }
+pub divide-requires-clause-inner : goal.divide-requires-clause-inner
+divide-requires-clause-inner t c = inside _ _ _ _ c.args.function.canonical c.if-function-eq1.false c.if-function-eq2.false
 
-pub overflow_mul-f-2 : goal.overflow_mul-f-2
-overflow_mul-f-2 t c = omega (arith, c.requires.few)
+pub returns-in_err-parts : goal.returns-in_err-parts
+returns-in_err-parts t c =
+    let i = inside _ _ _ _ c.args.function.canonical c.if-function-eq1.false c.if-function-eq2.false in
+    over_divide _ _ _ (tree-deep _ _ _ _ c.args.function.canonical) i (clause_of c.args.y) _ _ c.in_err-parts.ensures _ _ _ (search rules)
 
-pub overflow_add-f : goal.overflow_add-f
-overflow_add-f t c = omega (arith, c.requires.marks)
-
-pub overflow_add-f-2 : goal.overflow_add-f-2
-overflow_add-f-2 t c = omega (arith, c.requires.marks, c.requires.needs)
-
-pub overflow_mul-f-3 : goal.overflow_mul-f-3
-overflow_mul-f-3 t c = omega (arith, numbers _ _ _ _ (clause_of c.args.y) _ _ c.requires c.if-kf-eq1.false c.if-kf-eq2.false)
-
-pub recall-requires : goal.recall-requires
-recall-requires t c = let a = ask_recall _ _ _ _ (clause_of c.args.y) _ _ c.requires c.if-kf-eq1.false c.if-kf-eq2.false in
-    a
-
-pub returns-then-recall : goal.returns-then-recall
-returns-then-recall t c = let parts = recalled _ _ _ _ (clause_of c.args.y) _ _ c.requires c.if-kf-eq1.false c.if-kf-eq2.false c.if-k-out.true _ c.recall.ensures c.if-recall.true in
-    record { same = parts.0; still = parts.1.0; solves = parts.1.1 }
-
-pub divide-requires : goal.divide-requires
-divide-requires t c = (ask_divide _ _ _ _ (clause_of c.args.y) _ _ c.requires c.if-kf-eq1.false c.if-kf-eq2.false)
-
-pub shape_of-w-in_default : goal.shape_of-w-in_default
-shape_of-w-in_default t c = c.divide.auto.w
-
-pub returns-in_default : goal.returns-in_default
-returns-in_default t c = let parts = over-divide _ _ _ _ (clause_of c.args.y) _ _ c.requires c.if-kf-eq1.false c.if-kf-eq2.false _ c.divide.ensures.w_unchanged c.divide.auto.w c.divide.result c.divide.ensures.divides c.in_default.is in
-    record { same = parts.0; still = parts.1.0; solves = parts.1.1 }
-
-pub loop-i-init : goal.loop-i-init
-loop-i-init t c = turn_start _ _ _ _ (clause_of c.args.y) _ _ c.requires c.if-kf-eq1.false c.if-kf-eq2.false _ c.divide.ensures.w_unchanged c.divide.auto.w c.divide.result c.divide.ensures.divides c.in-Into.p c.in-Into.is
-
-pub load_part-part-requires : goal.load_part-part-requires
-load_part-part-requires t c = (ask_load _ _ _ _ (clause_of c.args.y) _ _ c.requires c.if-kf-eq1.false c.if-kf-eq2.false _ c.divide.ensures.w_unchanged c.divide.auto.w c.divide.result c.divide.ensures.divides c.in-Into.p c.in-Into.is _ _ _ _ c.loop-i.invariant)
-
-pub overflow_add-d : goal.overflow_add-d
-overflow_add-d t c = omega (arith, c.requires.needs, c.requires.marks)
-
-pub literals-requires : goal.literals-requires
-literals-requires t c = omega (arith, mark-fits _ _ _ _ (clause_of c.args.y) _ _ c.requires c.if-kf-eq1.false c.if-kf-eq2.false _ c.divide.ensures.w_unchanged c.divide.auto.w c.divide.result c.divide.ensures.divides c.in-Into.p c.in-Into.is _ _ _ _ c.loop-i.invariant, c.requires.marks)
+pub invariant_of-core : goal.invariant_of-core
+invariant_of-core t c = record { canonical = canonical_of _ _ _ _ _ c.in_ok-parts.ensures.0 c.args.function.canonical.marks c.args.function.canonical.some c.args.function.canonical.few }
 
 pub solve-requires : goal.solve-requires
-solve-requires t c = (omega (arith, c.decreases, c.requires.needs), (ask_solve _ _ _ _ (clause_of c.args.y) _ _ c.requires c.if-kf-eq1.false c.if-kf-eq2.false _ c.divide.ensures.w_unchanged c.divide.auto.w c.divide.result c.divide.ensures.divides c.in-Into.p c.in-Into.is _ _ _ _ c.loop-i.invariant c.loop-i-test.true _ c.load_part-part.ensures.w_unchanged c.load_part-part.auto.w _ c.load_part-part.ensures.loads (clause_of c.literals.result) c.literals.ensures))
+solve-requires t c =
+    let i = inside _ _ _ _ c.args.function.canonical c.if-function-eq1.false c.if-function-eq2.false in
+    let less = falls _ _ (tree-deep _ _ _ _ c.args.function.canonical) i 0 _ (tab-means _ _ _ _ _ c.in_ok-parts.ensures.0) in
+    (omega (arith, less, c.decreases), (c.requires.few, (frames_deeper (3 * (stride * c.args.function.room)) _ _ _ _ less c.requires.deep (search rules), (c.requires.long, (c.requires.remembers, search rules)))))
 
-pub shape_of-w-in_default-solve : goal.shape_of-w-in_default-solve
-shape_of-w-in_default-solve t c = c.solve.auto.w ∙ c.load_part-part.auto.w ∙ c.loop-i.invariant.long ∙ c.divide.auto.w
+pub returns-in_err-done : goal.returns-in_err-done
+returns-in_err-done t c =
+    let i = inside _ _ _ _ c.args.function.canonical c.if-function-eq1.false c.if-function-eq2.false in
+    let d = tree-deep _ _ _ _ c.args.function.canonical in
+    part_over _ _ _ d i (clause_of c.args.y) _ _ _ _ 0 _ (none_done _ _ _ d i (clause_of c.args.y) _ _ _ c.requires.few c.requires.remembers) _ (tab-means _ _ _ _ _ c.in_ok-parts.ensures.0) (clause_of c.args.y) refl
+    (omega arith) c.in_ok-parts.ensures.3 c.in_err-done.ensures _ _ _ (search rules)
 
-pub shape_of-out-in_default-solve : goal.shape_of-out-in_default-solve
-shape_of-out-in_default-solve t c = c.solve.auto.out ∙ c.loop-i.invariant.outs
+pub loop-value-init : goal.loop-value-init
+loop-value-init t c =
+    let i = inside _ _ _ _ c.args.function.canonical c.if-function-eq1.false c.if-function-eq2.false in
+    let d = tree-deep _ _ _ _ c.args.function.canonical in
+    part_done _ _ _ d i (clause_of c.args.y) _ _ _ _ 0 _ (none_done _ _ _ d i (clause_of c.args.y) _ _ _ c.requires.few c.requires.remembers) _ (tab-means _ _ _ _ _ c.in_ok-parts.ensures.0) (clause_of c.args.y) refl
+    _ _ _ c.in_ok-done.ensures _ refl
 
-pub returns-in_default-solve : goal.returns-in_default-solve
-returns-in_default-solve t c = let parts = part-nodes _ _ _ _ (clause_of c.args.y) _ _ c.requires c.if-kf-eq1.false c.if-kf-eq2.false _ c.divide.ensures.w_unchanged c.divide.auto.w c.divide.result c.divide.ensures.divides c.in-Into.p c.in-Into.is _ _ _ _ c.loop-i.invariant c.loop-i-test.true _ c.load_part-part.ensures.w_unchanged c.load_part-part.auto.w _ c.load_part-part.ensures.loads (clause_of c.literals.result) c.literals.ensures _ _ c.solve.ensures.same c.solve.auto.w c.solve.result c.solve.ensures.still c.solve.ensures.solves c.in_default-solve.is in
-    record { same = parts.0; still = parts.1.0; solves = parts.1.1 }
+pub invariant_of-rest : goal.invariant_of-rest
+invariant_of-rest t c = record { canonical = canonical_of _ _ _ _ _ c.in_ok-parts.ensures.1 c.args.function.canonical.marks c.args.function.canonical.some c.args.function.canonical.few }
 
-pub overflow_add-i : goal.overflow_add-i
-overflow_add-i t c = omega (arith, c.loop-i-test.true)
+pub returns-in_err-count : goal.returns-in_err-count
+returns-in_err-count t c =
+    let i = inside _ _ _ _ c.args.function.canonical c.if-function-eq1.false c.if-function-eq2.false in
+    absurd (never _ _ _ _ _ c.in_ok-parts.ensures.1 _ _ (mark_less _ _ (tree-deep _ _ _ _ c.args.function.canonical) i _ c.in_ok-parts.ensures.2) c.in_err-count.ensures)
 
-pub loop-i-smaller : goal.loop-i-smaller
-loop-i-smaller t c = omega (arith, c.loop-i-test.true)
+pub with_bit-literals-requires : goal.with_bit-literals-requires
+with_bit-literals-requires t c =
+    let i = inside _ _ _ _ c.args.function.canonical c.if-function-eq1.false c.if-function-eq2.false in
+    omega (arith, mark_less _ _ (tree-deep _ _ _ _ c.args.function.canonical) i _ c.in_ok-parts.ensures.2, c.args.function.canonical.marks)
 
-pub loop-i-preserved : goal.loop-i-preserved
-loop-i-preserved t c = turn_again _ _ _ _ (clause_of c.args.y) _ _ c.requires c.if-kf-eq1.false c.if-kf-eq2.false _ c.divide.ensures.w_unchanged c.divide.auto.w c.divide.result c.divide.ensures.divides c.in-Into.p c.in-Into.is _ _ _ _ c.loop-i.invariant c.loop-i-test.true _ c.load_part-part.ensures.w_unchanged c.load_part-part.auto.w _ c.load_part-part.ensures.loads (clause_of c.literals.result) c.literals.ensures
-    _ _ c.solve.ensures.same c.solve.auto.w c.solve.result c.solve.ensures.still c.solve.ensures.solves c.solve.auto.out _ c.in-Done.is
+pub invariant_of-side : goal.invariant_of-side
+invariant_of-side t c = record { canonical = canonical_of _ _ _ _ _ c.in_ok-count.ensures c.args.function.canonical.marks c.args.function.canonical.some c.args.function.canonical.few }
 
-pub remember-requires : goal.remember-requires
-remember-requires t c = let a = ask_remember _ _ _ _ (clause_of c.args.y) _ _ c.requires c.if-kf-eq1.false c.if-kf-eq2.false _ c.divide.ensures.w_unchanged c.divide.auto.w c.divide.result c.divide.ensures.divides c.in-Into.p c.in-Into.is _ _ _ _ c.loop-i.invariant c.loop-i-test.false in
-    a
+pub solve-requires-in-loop-value : goal.solve-requires-in-loop-value
+solve-requires-in-loop-value t c =
+    let i = inside _ _ _ _ c.args.function.canonical c.if-function-eq1.false c.if-function-eq2.false in
+    let side = tab-means _ _ _ _ _ c.in_ok-count.ensures ∙ side_tree _ _ _ (tab-means _ _ _ _ _ c.in_ok-parts.ensures.1) _ c.in_ok-parts.ensures.2 c.loop-value.value-index (search rules) in
+    let less = falls _ _ (tree-deep _ _ _ _ c.args.function.canonical) i (suc c.loop-value.value-index) _ side in
+    (omega (arith, less, c.decreases), (c.loop-value.invariant.few, (frames_deeper (3 * (stride * c.args.function.room)) _ _ _ _ less c.requires.deep (search rules), (search rules, (c.loop-value.invariant.remembers, search rules)))))
 
-pub shape_of-w : goal.shape_of-w
-shape_of-w t c = c.remember.auto.w ∙ c.loop-i.invariant.long ∙ c.divide.auto.w
+pub returns-in_err-done-2 : goal.returns-in_err-done-2
+returns-in_err-done-2 t c =
+    let i = inside _ _ _ _ c.args.function.canonical c.if-function-eq1.false c.if-function-eq2.false in
+    part_over _ _ _ (tree-deep _ _ _ _ c.args.function.canonical) i (clause_of c.args.y) _ _ _ _ _ _ c.loop-value.invariant
+    _ (tab-means _ _ _ _ _ c.in_ok-count.ensures ∙ side_tree _ _ _ (tab-means _ _ _ _ _ c.in_ok-parts.ensures.1) _ c.in_ok-parts.ensures.2 c.loop-value.value-index (search rules))
+    (clause_of c.with_bit-literals.result) (c.with_bit-literals.ensures ∙ side_literals _ _ _ _ c.in_ok-parts.ensures.2 c.loop-value.value-index (search rules))
+    (omega arith) c.in_ok-parts.ensures.3 c.in_err-done-2.ensures _ _ _ (search rules)
 
-pub shape_of-out : goal.shape_of-out
-shape_of-out t c = c.loop-i.invariant.outs
+pub loop-value-preserved : goal.loop-value-preserved
+loop-value-preserved t c =
+    let i = inside _ _ _ _ c.args.function.canonical c.if-function-eq1.false c.if-function-eq2.false in
+    part_done _ _ _ (tree-deep _ _ _ _ c.args.function.canonical) i (clause_of c.args.y) _ _ _ _ _ _ c.loop-value.invariant
+    _ (tab-means _ _ _ _ _ c.in_ok-count.ensures ∙ side_tree _ _ _ (tab-means _ _ _ _ _ c.in_ok-parts.ensures.1) _ c.in_ok-parts.ensures.2 c.loop-value.value-index (search rules))
+    (clause_of c.with_bit-literals.result) (c.with_bit-literals.ensures ∙ side_literals _ _ _ _ c.in_ok-parts.ensures.2 c.loop-value.value-index (search rules))
+    _ _ _ c.in_ok-done-2.ensures _ (omega arith)
+
+pub remember-requires-clause-harmless : goal.remember-requires-clause-harmless
+remember-requires-clause-harmless t c =
+    let i = inside _ _ _ _ c.args.function.canonical c.if-function-eq1.false c.if-function-eq2.false in
+    fine _ _ _ (tree-deep _ _ _ _ c.args.function.canonical) i (clause_of c.args.y) _ _ _ _ _ _ (omega arith) c.loop-value.invariant c.in_ok-parts.ensures.3
 
 pub returns : goal.returns
-returns t c = let parts = ended _ _ _ _ (clause_of c.args.y) _ _ c.requires c.if-kf-eq1.false c.if-kf-eq2.false _ c.divide.ensures.w_unchanged c.divide.auto.w c.divide.result c.divide.ensures.divides c.in-Into.p c.in-Into.is _ _ _ _ c.loop-i.invariant c.loop-i-test.false _ c.remember.ensures.w_unchanged c.remember.ensures.remembers in
-    record { same = parts.0; still = parts.1.0; solves = parts.1.1 }
+returns t c =
+    let i = inside _ _ _ _ c.args.function.canonical c.if-function-eq1.false c.if-function-eq2.false in
+    listed _ _ _ (tree-deep _ _ _ _ c.args.function.canonical) i (clause_of c.args.y) _ _ _ _ _ _ (omega arith) c.loop-value.invariant c.in_ok-parts.ensures.3 _ c.remember.ensures.remembers

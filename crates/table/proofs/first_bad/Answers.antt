@@ -1,21 +1,14 @@
 use mathlib.Core.Path.{sym, ◌∙◌}
 use native.Mathlib.Omega.{arith}
-use borrow.Author.Count.{below_more}
 use borrow.Author.Rules.{rules}
 use Rattle.refusal.proofs.Firsts.{first-is, first-none}
 use Rattle.table.specs.Inspection.{first_bad}
 use Rattle.table.proofs.first_bad.Goals as goal
 
-pub loop-i-init : goal.loop-i-init
-loop-i-init c = (omega arith, λ j h. absurd (omega arith))
-
 pub returns-then-not-node_ok : goal.returns-then-not-node_ok
 unfolding first_bad
-returns-then-not-node_ok c = sym (first-is _ _ _ (search rules) c.loop-i.invariant.1 (sym c.node_ok.ensures ∙ c.if-not-node_ok.true))
-
-pub loop-i-preserved : goal.loop-i-preserved
-loop-i-preserved c = (omega arith, below_more _ _ c.loop-i.invariant.1 (sym c.node_ok.ensures ∙ c.if-not-node_ok.false))
+returns-then-not-node_ok c = sym (first-is _ _ _ (search rules) c.loop-i.invariant (sym c.node_ok.ensures ∙ c.if-not-node_ok.true))
 
 pub returns : goal.returns
 unfolding first_bad
-returns c = sym (first-none _ _ (λ j h. c.loop-i.invariant.1 j (omega arith)))
+returns c = sym (first-none _ _ (λ j h. c.loop-i.invariant j (omega arith)))

@@ -1,45 +1,23 @@
-use native.Mathlib.Omega.{arith}
-use Rattle.text.proofs.TextLaws.{refused-fits}
-use mathlib.Core.Path.{◌∙◌}
-use mathlib.Core.List.{[], ◌∷◌, ◌++◌}
-use Rattle.text.specs.Text.{space, line_end, decimal, refused_word, refused_text}
-use Rattle.text.proofs.WritingLaws.{fits-first, fits_then, appends_then, appended_within, prints}
+use Rattle.std.proofs.Common.{arith, rules, refl, ◌∙◌}
+use Rattle.text.specs.Text.{refused_word, refused_text}
+use Rattle.text.proofs.TextLaws.{decimal-short}
+use Rattle.text.proofs.WritingLaws.{appends_then, prints}
 use Rattle.text.proofs.put_refusal.Goals as goal
 
-pub put_bytes-word-requires : goal.put_bytes-word-requires
-unfolding refused_text
-put_bytes-word-requires c = let fits = refused-fits c.args.out.now c.requires c.args.refusal.number c.args.refusal.place (omega arith) (omega arith) in
-    fits-first refused_word ((decimal c.args.refusal.number) ++ ((space ∷ []) ++ ((decimal c.args.refusal.place) ++ (line_end ∷ [])))) _ [] _ 0 (fits)
+pub put_decimal-requires : goal.put_decimal-requires
+put_decimal-requires c = omega (arith, c.requires, c.put_bytes.ensures.end, c.put_bytes.ensures.long, decimal-short c.from.result (omega arith))
 
-pub put_decimal-number-requires : goal.put_decimal-number-requires
-unfolding refused_text
-put_decimal-number-requires c = let fits = refused-fits c.args.out.now c.requires c.args.refusal.number c.args.refusal.place (omega arith) (omega arith) in
-    fits-first (decimal c.args.refusal.number) ((space ∷ []) ++ ((decimal c.args.refusal.place) ++ (line_end ∷ []))) _ [] _ 0 (fits_then refused_word ((decimal c.args.refusal.number) ++ ((space ∷ []) ++ ((decimal c.args.refusal.place) ++ (line_end ∷ [])))) _ _ _ _ (fits) c.put_bytes-word.ensures c.put_bytes-word.auto.out)
+pub put_byte-requires : goal.put_byte-requires
+put_byte-requires c = omega (arith, c.requires, c.put_bytes.ensures.end, c.put_bytes.ensures.long, decimal-short c.from.result (omega arith), c.put_decimal.ensures.end, c.put_decimal.ensures.long)
 
-pub put_byte-space-requires : goal.put_byte-space-requires
-unfolding refused_text
-put_byte-space-requires c = let fits = refused-fits c.args.out.now c.requires c.args.refusal.number c.args.refusal.place (omega arith) (omega arith) in
-    fits-first (space ∷ []) ((decimal c.args.refusal.place) ++ (line_end ∷ [])) _ [] _ 0 (fits_then (decimal c.args.refusal.number) ((space ∷ []) ++ ((decimal c.args.refusal.place) ++ (line_end ∷ []))) _ _ _ _ (fits_then refused_word ((decimal c.args.refusal.number) ++ ((space ∷ []) ++ ((decimal c.args.refusal.place) ++ (line_end ∷ [])))) _ _ _ _ (fits) c.put_bytes-word.ensures c.put_bytes-word.auto.out) c.put_decimal-number.ensures c.put_decimal-number.auto.out)
+pub put_decimal-requires-2 : goal.put_decimal-requires-2
+put_decimal-requires-2 c = omega (arith, c.requires, c.put_bytes.ensures.end, c.put_bytes.ensures.long, decimal-short c.from.result (omega arith), c.put_decimal.ensures.end, c.put_decimal.ensures.long, c.put_byte.ensures.end, c.put_byte.ensures.long, decimal-short c.args.refusal.place (omega arith))
 
-pub put_decimal-place-requires : goal.put_decimal-place-requires
-unfolding refused_text
-put_decimal-place-requires c = let fits = refused-fits c.args.out.now c.requires c.args.refusal.number c.args.refusal.place (omega arith) (omega arith) in
-    fits-first (decimal c.args.refusal.place) (line_end ∷ []) _ [] _ 0 (fits_then (space ∷ []) ((decimal c.args.refusal.place) ++ (line_end ∷ [])) _ _ _ _ (fits_then (decimal c.args.refusal.number) ((space ∷ []) ++ ((decimal c.args.refusal.place) ++ (line_end ∷ []))) _ _ _ _ (fits_then refused_word ((decimal c.args.refusal.number) ++ ((space ∷ []) ++ ((decimal c.args.refusal.place) ++ (line_end ∷ [])))) _ _ _ _ (fits) c.put_bytes-word.ensures c.put_bytes-word.auto.out) c.put_decimal-number.ensures c.put_decimal-number.auto.out) c.put_byte-space.ensures c.put_byte-space.auto.out)
-
-pub put_byte-end-requires : goal.put_byte-end-requires
-unfolding refused_text
-put_byte-end-requires c = let fits = refused-fits c.args.out.now c.requires c.args.refusal.number c.args.refusal.place (omega arith) (omega arith) in
-    fits_then (decimal c.args.refusal.place) (line_end ∷ []) _ _ _ _ (fits_then (space ∷ []) ((decimal c.args.refusal.place) ++ (line_end ∷ [])) _ _ _ _ (fits_then (decimal c.args.refusal.number) ((space ∷ []) ++ ((decimal c.args.refusal.place) ++ (line_end ∷ []))) _ _ _ _ (fits_then refused_word ((decimal c.args.refusal.number) ++ ((space ∷ []) ++ ((decimal c.args.refusal.place) ++ (line_end ∷ [])))) _ _ _ _ (fits) c.put_bytes-word.ensures c.put_bytes-word.auto.out) c.put_decimal-number.ensures c.put_decimal-number.auto.out) c.put_byte-space.ensures c.put_byte-space.auto.out) c.put_decimal-place.ensures c.put_decimal-place.auto.out
-
-pub zero_u8_from-requires : goal.zero_u8_from-requires
-unfolding refused_text
-zero_u8_from-requires c = let fits = refused-fits c.args.out.now c.requires c.args.refusal.number c.args.refusal.place (omega arith) (omega arith) in
-    appended_within _ _ _ _ _ (fits) (appends_then refused_word ((decimal c.args.refusal.number) ++ ((space ∷ []) ++ ((decimal c.args.refusal.place) ++ (line_end ∷ [])))) _ _ _ _ _ _ c.put_bytes-word.ensures (appends_then (decimal c.args.refusal.number) ((space ∷ []) ++ ((decimal c.args.refusal.place) ++ (line_end ∷ []))) _ _ _ _ _ _ c.put_decimal-number.ensures (appends_then (space ∷ []) ((decimal c.args.refusal.place) ++ (line_end ∷ [])) _ _ _ _ _ _ c.put_byte-space.ensures (appends_then (decimal c.args.refusal.place) (line_end ∷ []) _ _ _ _ _ _ c.put_decimal-place.ensures c.put_byte-end.ensures)))) (c.put_byte-end.auto.out ∙ c.put_decimal-place.auto.out ∙ c.put_byte-space.auto.out ∙ c.put_decimal-number.auto.out ∙ c.put_bytes-word.auto.out)
-
-pub shape_of-out : goal.shape_of-out
-shape_of-out c = c.zero_u8_from.auto.buffer ∙ (c.put_byte-end.auto.out ∙ c.put_decimal-place.auto.out ∙ c.put_byte-space.auto.out ∙ c.put_decimal-number.auto.out ∙ c.put_bytes-word.auto.out)
+pub put_line_end-requires : goal.put_line_end-requires
+put_line_end-requires c = omega (arith, c.requires, c.put_bytes.ensures.end, c.put_bytes.ensures.long, decimal-short c.from.result (omega arith), c.put_decimal.ensures.end, c.put_decimal.ensures.long, c.put_byte.ensures.end, c.put_byte.ensures.long, decimal-short c.args.refusal.place (omega arith), c.put_decimal-2.ensures.end, c.put_decimal-2.ensures.long)
 
 pub returns : goal.returns
 unfolding refused_text
-returns c = let fits = refused-fits c.args.out.now c.requires c.args.refusal.number c.args.refusal.place (omega arith) (omega arith) in
-    prints _ _ _ _ _ (fits) (appends_then refused_word ((decimal c.args.refusal.number) ++ ((space ∷ []) ++ ((decimal c.args.refusal.place) ++ (line_end ∷ [])))) _ _ _ _ _ _ c.put_bytes-word.ensures (appends_then (decimal c.args.refusal.number) ((space ∷ []) ++ ((decimal c.args.refusal.place) ++ (line_end ∷ []))) _ _ _ _ _ _ c.put_decimal-number.ensures (appends_then (space ∷ []) ((decimal c.args.refusal.place) ++ (line_end ∷ [])) _ _ _ _ _ _ c.put_byte-space.ensures (appends_then (decimal c.args.refusal.place) (line_end ∷ []) _ _ _ _ _ _ c.put_decimal-place.ensures c.put_byte-end.ensures)))) (c.put_byte-end.auto.out ∙ c.put_decimal-place.auto.out ∙ c.put_byte-space.auto.out ∙ c.put_decimal-number.auto.out ∙ c.put_bytes-word.auto.out) c.zero_u8_from.ensures
+returns c =
+    let behind = appends_then _ _ _ _ _ c.put_byte.ensures (appends_then _ _ _ _ _ c.put_decimal-2.ensures c.put_line_end.ensures) in
+    rw (← (c.from.ensures ∙ c.number.ensures)) (prints _ _ _ _ _ _ refl refl (omega (arith, c.requires, c.put_bytes.ensures.end, c.put_bytes.ensures.long, decimal-short c.from.result (omega arith), c.put_decimal.ensures.end, c.put_decimal.ensures.long, c.put_byte.ensures.end, c.put_byte.ensures.long, decimal-short c.args.refusal.place (omega arith), c.put_decimal-2.ensures.end, c.put_decimal-2.ensures.long, c.put_line_end.ensures.end, c.put_line_end.ensures.long)) (appends_then refused_word _ _ _ _ c.put_bytes.ensures (appends_then _ _ _ _ _ c.put_decimal.ensures behind)) (search rules) (search rules))

@@ -1,11 +1,8 @@
 -- `trim_marks`: the clauses so far, and the marks that are left.
-use lib.ListN.{length}
-use Rattle.theory.specs.Clause.{marks_of}
+use Rattle.valuation.specs.Marks.{marks_left}
+use Rattle.held.specs.Trees.{tree_of}
 use Rattle.trimming.proofs.TrimLaws.{TrimInv}
 use Rattle.trimming.proofs.trim_marks.Given as goal
 
-abbrev pub invariant-loop-rest : goal.invariant-loop-rest
-invariant-loop-rest l = TrimInv l.q l.initial.w l.initial.out l.w l.out l.f l.kf l.k l.rest
-
-abbrev pub decreases-loop-rest : goal.decreases-loop-rest
-decreases-loop-rest l = length (marks_of l.q.n l.rest)
+abbrev pub invariant-loop-m : goal.invariant-loop-m
+invariant-loop-m l = TrimInv l.function.n (tree_of l.function) l.initial.out l.out l.k (marks_left l.m-iterator)

@@ -1,15 +1,9 @@
 use native.Mathlib.Omega.{arith}
-use Rattle.walk.proofs.PathLaws.{descent_start, descent_fits, descent_reads, descent_step, descent_end, descent_falls}
+use Rattle.walk.proofs.Holding.{descent_start, descent_fits, descent_reads, descent_step, descent_end, descent_falls}
 use Rattle.walk.proofs.descend.Goals as goal
 
 pub loop-q-init : goal.loop-q-init
 loop-q-init c = descent_start _ _ _ c.requires
-
-pub overflow_cast-at : goal.overflow_cast-at
-overflow_cast-at c = omega (arith, descent_fits _ _ _ _ _ c.loop-q.invariant)
-
-pub offset_bounds-path-at : goal.offset_bounds-path-at
-offset_bounds-path-at c = omega (arith, descent_fits _ _ _ _ _ c.loop-q.invariant)
 
 pub bounds-path-at : goal.bounds-path-at
 bounds-path-at c = descent_fits _ _ _ _ _ c.loop-q.invariant
@@ -25,12 +19,6 @@ loop-q-smaller c = descent_falls _ _ _ _ _ c.loop-q.invariant c.loop-q-test.true
 
 pub loop-q-preserved : goal.loop-q-preserved
 loop-q-preserved c = descent_step _ _ _ _ _ c.loop-q.invariant c.loop-q-test.true _ c.onward_of-q.ensures
-
-pub overflow_cast-last : goal.overflow_cast-last
-overflow_cast-last c = omega (arith, descent_fits _ _ _ _ _ c.loop-q.invariant)
-
-pub offset_bounds-path-last : goal.offset_bounds-path-last
-offset_bounds-path-last c = omega (arith, descent_fits _ _ _ _ _ c.loop-q.invariant)
 
 pub bounds-path-last : goal.bounds-path-last
 bounds-path-last c = descent_fits _ _ _ _ _ c.loop-q.invariant

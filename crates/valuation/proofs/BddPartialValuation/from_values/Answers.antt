@@ -1,12 +1,8 @@
--- `from_values`: the pass over all marks, then the fold.
-use Rattle.valuation.proofs.Gathering.{bad_refuses, none_bad, gathered_answer}
+use Rattle.valuation.proofs.Gathering.{none_bad, gathered_answer}
 use Rattle.valuation.proofs.BddPartialValuation.from_values.Goals as goal
 
-pub returns-then-bad-values : goal.returns-then-bad-values
-returns-then-bad-values c = bad_refuses _ _ c.first_bad_mark-bad.ensures c.if-bad-values.true
-
 pub gather_values-requires : goal.gather_values-requires
-gather_values-requires c = none_bad _ _ c.first_bad_mark-bad.ensures c.if-bad-values.false
+gather_values-requires c = none_bad _ _ c.first_bad_mark-bad.ensures _ c.in_ok-refuse_if.ensures
 
 pub returns : goal.returns
-returns c = gathered_answer _ _ _ c.first_bad_mark-bad.ensures c.if-bad-values.false c.gather_values.ensures
+returns c = gathered_answer _ _ c.first_bad_mark-bad.ensures _ c.in_ok-refuse_if.ensures _ c.gather_values.ensures

@@ -1,5 +1,0 @@
-use Rattle.replies.proofs.ReplyLaws.{exported}
-use Rattle.exports.proofs.collartug_from_values.Goals as goal
-
-pub returns : goal.returns
-returns c = exported _ _ _ _ _ _ c.write_reply.ensures c.updated_written.ensures c.from_values.ensures

@@ -1,2 +1,0 @@
-pub mod FramedLaws
-pub mod WholeLaws

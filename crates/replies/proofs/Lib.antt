@@ -1,2 +1,0 @@
-pub mod ReplyLaws
-pub mod ListLaws

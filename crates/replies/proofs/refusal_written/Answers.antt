@@ -1,7 +1,0 @@
-use mathlib.Core.Path.{refl}
-use Rattle.refusal.specs.Buffers.{padded}
-use Rattle.replies.proofs.refusal_written.Goals as goal
-
-pub returns : goal.returns
-unfolding padded
-returns c = refl

@@ -1,7 +1,0 @@
--- `without_bit`: both masks, bit by bit.
-use Rattle.theory.specs.Clause.{unset_cell}
-use Rattle.valuation.proofs.without_bit.Goals as goal
-
-pub returns : goal.returns
-unfolding unset_cell
-returns c = λ i. record { fixed = c.set_bit.ensures i; values = c.set_bit-2.ensures i }
