@@ -23,7 +23,7 @@ use Rattle.walk.specs.declared.BddPathIterator.{BddPathIterator}
 use Rattle.valuation.specs.declared.BddPartialValuation.{BddPartialValuation}
 use Rattle.reduced.specs.Reduced.{node_reduced, first_unreduced, admits_walk}
 use Rattle.walk.specs.Step.{path_step_reply, ended, yields, kth_step, tells, walk_clauses, PathStart, start_of, words_of}
-use Rattle.walk.specs.Walk.{refusal_in, Steps}
+use Rattle.walk.specs.Walk.{start_in, refusal_in, Steps}
 use Rattle.reduced.proofs.CheckLaws as check
 use Rattle.walk.proofs.KthLaws as of
 use Rattle.walk.proofs.WalkSingle as one
@@ -64,6 +64,12 @@ module _ (n count : ℕ) (words : List ℕ) where
   new-single : {P : Type 0} (at p q : P) (u v : List ℕ) (a b : PathStart)
       → (u ≡ words_of n count words) × (p ≡ at) × (a ≡ start_of n count words) → (v ≡ words_of n count words) × (q ≡ at) × (b ≡ start_of n count words) → (u ≡ v) × (p ≡ q) × (a ≡ b)
   new-single = one.new-single n count words
+
+  -- what it found is the path and the refusal of the walk, so the walk itself is one
+  started-single : (at : ℕ × ℕ) (a b : BddPathIterator)
+      → (a.bdd.now ≡ words_of n count words) × (a.bdd.ref_ptr ≡ at) × (start_in a ≡ start_of n count words)
+      → (b.bdd.now ≡ words_of n count words) × (b.bdd.ref_ptr ≡ at) × (start_in b ≡ start_of n count words) → a ≡ b
+  started-single = one.started-single n count words
 
 -- a step: what it says, and the walk afterwards
 next-single : (i a b : BddPathIterator) (x y : Option BddPartialValuation) → Steps i x a → Steps i y b → (x ≡ y) × (a ≡ b)
