@@ -2,9 +2,9 @@
 use mathlib.Core.Path.{◌≡◌, sym, ap, subst, ◌∙◌}
 use mathlib.Core.Bool.{Bool, true, false, not}
 use mathlib.Core.List.{List}
-use Prim.Native.Nat.{ℕ, ◌-◌, ◌<◌}
+use Prim.Native.Nat.{ℕ, ◌-◌, ◌≤◌, ◌<◌}
 use native.Mathlib.Omega.{arith}
-use lib.ListN.{length}
+use lib.ListN.{length, get_or, replicate, get_or-replicate, length-replicate}
 use Rattle.theory.specs.Tree.{Deep, mapped, cofactor}
 use Rattle.theory.specs.Table.{Table, tree_of, walk, constants, meaning, Ordered, Good}
 use Rattle.theory.specs.Words.{nodes}
@@ -21,8 +21,15 @@ use Rattle.table.specs.Inspection.{SoundTable}
 use Rattle.pool.specs.Pool.{Answers, whole_table}
 use Rattle.pool.proofs.WholeLaws.{whole_leaves}
 use Rattle.carry.specs.declared.Way.{Way}
-use Rattle.carry.specs.Carry.{flip, carried, Begun, Carries}
+use Rattle.carry.specs.Carry.{flip, carried, Known, Ready, Carries}
 use Rattle.carry.specs.Whole.{Placing, along, CanonLeft}
+
+-- an empty memo knows nothing
+pub empty-memo : (memo memo₁ : List ℕ) (w : Way) (s o : Table) (count : ℕ) → count ≤ length memo → memo₁ ≡ replicate (length memo) 0 → Known memo₁ w s o count
+empty-memo memo memo₁ w s o count wide e i lt ne = absurd (ne (ap (λ (l : List ℕ). get_or l i 0) e ∙ get_or-replicate {A = ℕ} (length memo) i 0 0 (omega arith)))
+
+pub length-emptied : (memo memo₁ : List ℕ) → memo₁ ≡ replicate (length memo) 0 → length memo₁ ≡ length memo
+length-emptied memo memo₁ e = ap length e ∙ length-replicate {A = ℕ} (length memo) 0
 
 -- a node carried into any good table is the walk of its whole function
 pub carried-whole : (w : Way) (s o : Table) → Good w.n o → Ordered w.n s → (root : ℕ) → root < length s
@@ -44,16 +51,19 @@ module _ (bdd out memo : List ℕ) (w : Way) (count root : ℕ) (t : SoundTable 
   root-lies = omega (arith, length-nodes count bdd, t.last, t.some)
 
   module _ (out₁ : List ℕ) (same_out : length out₁ ≡ length out) (front : nodes 2 out₁ ≡ constants n) where
-    pub begins : Begun bdd out₁ memo w count 2 × (root < count)
-    begins = (
+    pub begins : (memo₁ : List ℕ) → memo₁ ≡ replicate (length memo) 0 → Ready bdd out₁ memo₁ w count 2 × (root < count)
+    begins memo₁ empty = (
       record {
-        marks = t.marks;
-        few = t.few;
-        long = t.long;
-        wide = g.wide;
-        ordered = t.ordered;
-        pushing = record { few = g.few; long = omega (arith, g.long); fits = g.some };
-        good = rw front (constants-good n);
+        begun = record {
+          marks = t.marks;
+          few = t.few;
+          long = t.long;
+          wide = omega (arith, g.wide, length-emptied memo memo₁ empty);
+          ordered = t.ordered;
+          pushing = record { few = g.few; long = omega (arith, g.long); fits = g.some };
+          good = rw front (constants-good n);
+        };
+        known = empty-memo memo memo₁ w s (nodes 2 out₁) count g.wide empty;
       },
       omega (arith, t.last, t.some),
     )

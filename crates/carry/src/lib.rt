@@ -7,7 +7,7 @@ ghost use Rattle.theory.specs.Table.{child_of, num, truth, meaning};
 ghost use Rattle.theory.specs.Words.{stride, node_at, nodes};
 ghost use Rattle.theory.proofs.Again.{turn};
 ghost use Rattle.pool.specs.Pool.{Noding};
-ghost use Rattle.carry.specs.Carry.{flip, plain, Recalls, Splits, Begun, Ready, Walks, Carries};
+ghost use Rattle.carry.specs.Carry.{flip, plain, Recalls, Splits, Ready, Walks, Carries};
 ghost use Rattle.carry.specs.Whole.{Placing, along, CanonLeft};
 
 use table::{BddPointer, Table};
@@ -87,33 +87,7 @@ struct Carrier<'t, 'o, 'm> {
     ghost ready: { Ready bdd.now out.now memo.now way count made },
 }
 
-impl<'t, 'o, 'm> Carrier<'t, 'o, 'm> {
-    // The memo is emptied.
-    fn new(
-        bdd: &'t [u32],
-        count: u32,
-        way: Way,
-        out: &'o mut [u32],
-        made: u32,
-        memo: &'m mut [u32],
-    ) -> Carrier<'t, 'o, 'm>
-        requires { Begun bdd.now out.old memo.old way count made }
-        ensures same_out { result.out.ghost_name ≡ out.entry.ghost_name }
-        ensures same_memo { result.memo.ghost_name ≡ memo.entry.ghost_name }
-        ensures long { length result.memo.now ≡ length memo.old }
-        ensures input { (result.bdd.now ≡ bdd.now) × (result.count ≡ count) × (result.way ≡ way) × (result.made ≡ made) × (result.out.now ≡ out.old) }
-    {
-        memo.fill(0);
-        Carrier {
-            bdd,
-            count,
-            way,
-            out,
-            made,
-            memo,
-        }
-    }
-
+impl Carrier<'_, '_, '_> {
     // A node's number in the output where that is known at once; else its mark, and its children on the way.
     fn split(&self, a: BddPointer) -> Step
         requires { a.0 < self.now.count }
@@ -214,7 +188,8 @@ fn child_along(bdd: &[u32], way: Way, variable: BddVariable, a: BddPointer, bit:
     child_of(bdd, a, way_bit)
 }
 
-// Node a of the table, walked into the output behind the nodes that stand there: its number, and how many stand there then. The memo is emptied before.
+// Node a of the table, walked into the output behind the nodes that stand there: its number, and how many stand there then.
+// The memo is empty at first: a node that an earlier call left in it is not walked again.
 pub fn carry(
     bdd: &[u32],
     out: &mut [u32],
@@ -224,10 +199,17 @@ pub fn carry(
     made: u32,
     a: BddPointer,
 ) -> Option<(BddPointer, u32)>
-    requires { Begun bdd.now out.old memo.old way count made × (a.0 < count) }
+    requires { Ready bdd.now out.old memo.old way count made × (a.0 < count) }
     ensures { Carries bdd.now out.old out.new memo.new way count made a.0 result }
 {
-    let mut carrier = Carrier::new(bdd, count, way, out, made, memo);
+    let mut carrier = Carrier {
+        bdd,
+        count,
+        way,
+        out,
+        made,
+        memo,
+    };
     let carried = carrier.node(a);
     let Carrier { made, .. } = carrier;
     Some((carried?, made))
@@ -238,6 +220,7 @@ fn carry_table(table: Table, way: Way, out: &mut [u32], memo: &mut [u32]) -> Res
     requires { (way.n ≡ table.n) × Placing out.old memo.old table.count way.room }
     ensures { CanonLeft way.n way.room (along way (nodes table.entry.count table.entry.words.now)) out.new result }
 {
+    memo.fill(0);
     making::put_constants(out, way.n);
     pool::whole_table(carry(
         table.words,

@@ -6,7 +6,7 @@ use mathlib.Core.List.{List, [], ◌∷◌, ◌++◌}
 use Prim.Native.Nat.{ℕ, zero, suc, ◌+◌, ◌*◌, ◌-◌, ◌<◌, ◌≤◌, max}
 use native.Mathlib.Omega.{arith}
 use lib.Dec.{eqb}
-use lib.ListN.{length, length-append}
+use lib.ListN.{length, replicate, length-append}
 use borrow.Author.Tests.{eq-eqb, ne_eqb}
 use Rattle.theory.specs.Tree.{Tree, same_tree, mapped, cofactor}
 use Rattle.theory.specs.Table.{Node, Table, at, tree_of, meaning, walk, constants, cut, canon, Good}
@@ -22,8 +22,8 @@ use Rattle.refusal.specs.Verdict.{replied, gives}
 use Rattle.making.specs.Made.{Beyond}
 use Rattle.cube.proofs.Sizes.{adds}
 use Rattle.carry.specs.declared.Way.{Way}
-use Rattle.carry.specs.Carry.{flip, plain, carried, Begun, Carried}
-use Rattle.carry.proofs.WholeLaws.{carried-whole, same_function}
+use Rattle.carry.specs.Carry.{flip, plain, carried, Ready, Carried}
+use Rattle.carry.proofs.WholeLaws.{empty-memo, length-emptied, carried-whole, same_function}
 use Rattle.cover.specs.Cover.{first_differing, cover_answer}
 use Rattle.table.specs.Inspection.{SoundTable}
 use Rattle.cover.specs.Compare.{Paired, Comparing, Brought}
@@ -102,16 +102,19 @@ module _ (n count : ℕ) (words : List ℕ) (root made : ℕ) (pool memo : List 
       start : Walked n (constants n) n 0 t (o, made - 1)
       start = subst (λ k. Walked n (constants n) n 0 t (nodes k pool₁, made - 1)) (sym is) walked
 
-      pub bringing : Begun words pool₁ memo way count held × (root < count)
-      bringing = (
+      pub bringing : (memo₁ : List ℕ) → memo₁ ≡ replicate (length memo) 0 → Ready words pool₁ memo₁ way count held × (root < count)
+      bringing memo₁ empty = (
         record {
-          marks = input.marks;
-          few = input.few;
-          long = input.long;
-          wide = g.wide;
-          ordered = input.ordered;
-          pushing = record { few = omega (arith, g.few, input.few); long = omega (arith, g.long, made_some); fits = omega arith };
-          good = start.good;
+          begun = record {
+            marks = input.marks;
+            few = input.few;
+            long = input.long;
+            wide = omega (arith, g.wide, length-emptied memo memo₁ empty);
+            ordered = input.ordered;
+            pushing = record { few = omega (arith, g.few, input.few); long = omega (arith, g.long, made_some); fits = omega arith };
+            good = start.good;
+          };
+          known = empty-memo memo memo₁ way s o count g.wide empty;
         },
         omega (arith, input.last, input.some),
       )

@@ -132,6 +132,7 @@ fn bring(table: Table, made: usize, pool: &mut [u32], memo: &mut [u32]) -> (BddP
     ensures { Brought table.entry.n (meaning table.entry.n (nodes made pool.old)) (meaning table.entry.n (nodes table.entry.count table.entry.words.now)) made pool.new result.0.0 result.1 }
 {
     making::put_constants(pool, table.n);
+    memo.fill(0);
     let held = made.max(2);
     let way = Way::plain(table.n, (held + table.count) as u32);
     let carried = carry::carry(
