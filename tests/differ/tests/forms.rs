@@ -10,7 +10,7 @@ const FORMS: [&str; 11] = [
     "trailing_zeros",
     "let Inspection::Sound(",
     "fn choose_posting",
-    "fn join(",
+    "self.node(next, cut.low)",
     "enum Lookup",
     "struct BddVariable(",
     "struct BddPointer(",
