@@ -55,7 +55,7 @@ pub fn copy_nodes(work: &mut [u32], bdd: &[u32], count: u32)
     ensures { Copied work.old work.new bdd.now (3 * count) }
 {
     let end = 3 * (count as usize);
-    work[..end].copy_from_slice(&bdd[..end]);
+    making::copy_words(&mut work[..end], &bdd[..end]);
 }
 
 // The pool brought to the table of its node p: the nodes of earlier steps go.

@@ -1,4 +1,4 @@
-// What the entries that make a table share: their room and work, the constants, and the settling of their buffers. Inner.
+// What the entries that make a table share: their room and work, the constants, words copied, and the settling of their buffers. Inner.
 #![tactic(auto, using(refusal::proofs::Zeroing::zeroed), unfolding(refusal::specs::Buffers::padded, crate::specs::Room::over_room, crate::specs::Room::short_output, crate::specs::Room::short_work))]
 
 ghost use Rattle.std.specs.Prelude.{◌≡◌, ◌+◌, ◌*◌, ◌≤◌, length};
@@ -47,6 +47,16 @@ pub fn put_constants(out: &mut [u32], n: u16)
 {
     table::put_node(out, 0, BddVariable(n), BddPointer(0), BddPointer(0));
     table::put_node(out, 1, BddVariable(n), BddPointer(1), BddPointer(1));
+}
+
+// Words copied to a place of as many. No copy_from_slice: a C program that links the archive would have to bring memmove along.
+pub fn copy_words(to: &mut [u32], from: &[u32])
+    requires { length to.old ≡ length from.now }
+    ensures { to.new ≡ from.now }
+{
+    for (i, word) in from.iter().enumerate() {
+        to[i] = *word;
+    }
 }
 
 // Zeros behind the table that a core left, and in the work memory; all zeros where the core gave the place of NODES.

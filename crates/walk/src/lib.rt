@@ -220,6 +220,9 @@ impl Iterator for BddPathIterator<'_> {
     ghost next_gives = { Steps };
 
     fn next(&mut self) -> Option<BddPartialValuation> {
+        if self.at.len == 0 {
+            return None;
+        }
         let here = self.at;
         self.at = next_path(self.bdd, &here);
         step_of(self.bdd, &here)
