@@ -45,8 +45,5 @@ pub fn remember(known: &mut [u32], function: Function)
     let at = slot_of(function);
     let end = NODE_WORDS * function.count;
     known[at] = function.count as u32;
-    making::copy_words(
-        &mut known[at + 1..at + 1 + end],
-        &function.words[..end],
-    );
+    making::copy_words(&mut known[at + 1..at + 1 + end], &function.words[..end]);
 }
