@@ -26,7 +26,7 @@ fn is_node(
 }
 
 // The node with that mark and those links, which stands above both.
-// The words that are left are cut at each step: where a loop over node numbers was inlined it kept a third counter, and took up to a quarter longer.
+// The words that are left are cut at each step: where a loop over node numbers was inlined it kept a third counter, and took about a quarter longer.
 pub fn find_node(
     bdd: &[u32],
     count: u32,
