@@ -189,7 +189,7 @@ fn child_along(bdd: &[u32], way: Way, variable: BddVariable, a: BddPointer, bit:
 }
 
 // Node a of the table, walked into the output behind the nodes that stand there: its number, and how many stand there then.
-// The memo is empty at first: a node that an earlier call left in it is not walked again.
+// The memo is empty, or right about the output: a node that an earlier call left in it is not walked again.
 pub fn carry(
     bdd: &[u32],
     out: &mut [u32],
