@@ -142,7 +142,7 @@ module _ (w : List ℕ) (j : Job) (l k a : ℕ) (off : Bool) (r : Ready w j l k 
       steps : (b : Bool) → step s₂ v b a ≡ step s v b a
       steps b = ap (λ (z : Table). step z v b a) grown₂ ∙ step-append j.run.n s r.good.ordered more₂ v b a d.fits.lies
 
-      pub settling : Settling w₂ j k₂ c a p q
+      pub settling : Settling w₂ j.run k₂ c a p q
       settling = record {
         noded = record {
           pushing = record { few = r.few; long = omega (arith, r.long); fits = x.holds.fits };
@@ -163,7 +163,7 @@ module _ (w : List ℕ) (j : Job) (l k a : ℕ) (off : Bool) (r : Ready w j l k 
       full_node h = rw split₂ h
 
       -- the node over them is o, in w₃
-      module _ (w₃ : List ℕ) (o k₃ : ℕ) (y : Settled w₂ w₃ j k₂ c a p q o k₃) where
+      module _ (w₃ : List ℕ) (o k₃ : ℕ) (y : Settled w₂ w₃ j.run k₂ c a p q o k₃) where
         abbrev s₃ : Table
         s₃ = nodes k₃ w₃
 
@@ -253,7 +253,7 @@ module _ (w : List ℕ) (j : Job) (l k a : ℕ) (off : Bool) (r : Ready w j l k 
           chained = y.chained;
         }
 
-      pub finish : (w₃ : List ℕ) (z : Option (BddPointer × ℕ)) → Settles w₂ w₃ j k₂ c a p q z → Puts w w₃ j l k a off z
+      pub finish : (w₃ : List ℕ) (z : Option (BddPointer × ℕ)) → Settles w₂ w₃ j.run k₂ c a p q z → Puts w w₃ j l k a off z
       finish w₃ (Some (o, k₃)) y = done w₃ o.0 k₃ y
       finish w₃ None h = full_node h
 

@@ -13,7 +13,7 @@ use Rattle.theory.specs.Table.{Table, tree_of, mk}
 use Rattle.theory.specs.Words.{nodes}
 use Rattle.theory.proofs.Walk.{Walked, mk_own, mk-sound}
 use Rattle.theory.proofs.Words.{length-nodes, nodes-agree}
-use Rattle.put.specs.declared.Job.{Job}
+use Rattle.put.specs.declared.Run.{Run}
 use Rattle.put.specs.declared.Cut.{Cut}
 use Rattle.put.specs.Put.{memo_base, word, word_of, Settling, Settled}
 use Rattle.pool.specs.Pool.{Holds}
@@ -41,11 +41,11 @@ module _ (cap stamp a e : ℕ) (w w' : List ℕ) (h : 3 * cap + a < length w) wh
     | no z ↦ inl (ap (λ u. word u cap x) q ∙ get_or-set_other w (3 * cap + a) (3 * cap + x) e 0 (λ y. z (omega arith)))
   ]
 
-module _ (w : List ℕ) (j : Job) (k : ℕ) (c : Cut) (a p q : ℕ) (r : Settling w j k c a p q) where
+module _ (w : List ℕ) (run : Run) (k : ℕ) (c : Cut) (a p q : ℕ) (r : Settling w run k c a p q) where
   pub a_in : a < k
   a_in = omega (arith, r.fits.lies, length-nodes k w)
 
-  pub slot_in : (w₁ : List ℕ) → length w₁ ≡ length w → 3 * j.run.cap + a < length w₁
+  pub slot_in : (w₁ : List ℕ) → length w₁ ≡ length w → 3 * run.cap + a < length w₁
   slot_in w₁ e = omega (arith, a_in, r.noded.pushing.fits, r.long)
 
   pub a_small : a < memo_base
@@ -54,37 +54,37 @@ module _ (w : List ℕ) (j : Job) (k : ℕ) (c : Cut) (a p q : ℕ) (r : Settlin
   -- nothing is changed: the node itself
   pub same : p ≡ c.low.0 → q ≡ c.high.0 → mk (nodes k w) c.variable.0 p q ≡ (nodes k w, a)
   same ep eq =
-      ap₂ (mk (nodes k w) c.variable.0) (ep ∙ r.low) (eq ∙ r.high) ∙ mk_own j.run.n (nodes k w) r.noded.good c.variable.0 a r.noded.level r.fits
+      ap₂ (mk (nodes k w) c.variable.0) (ep ∙ r.low) (eq ∙ r.high) ∙ mk_own run.n (nodes k w) r.noded.good c.variable.0 a r.noded.level r.fits
 
-  pub same-settled : p ≡ c.low.0 → q ≡ c.high.0 → (w' : List ℕ) → w' ≡ cond c.own (set w (3 * j.run.cap + a) (word_of j.run.stamp a)) w → Settled w w' j k c a p q a k
+  pub same-settled : p ≡ c.low.0 → q ≡ c.high.0 → (w' : List ℕ) → w' ≡ cond c.own (set w (3 * run.cap + a) (word_of run.stamp a)) w → Settled w w' run k c a p q a k
   same-settled ep eq w' e = record {
     holds = record {
-      is = same ep eq ∙ ap (λ (s : Table). (s, a)) (sym (keep-nodes j.run.cap j.run.stamp a _ w w' (slot_in w refl) c.own k r.noded.pushing.fits e));
+      is = same ep eq ∙ ap (λ (s : Table). (s, a)) (sym (keep-nodes run.cap run.stamp a _ w w' (slot_in w refl) c.own k r.noded.pushing.fits e));
       fits = r.noded.pushing.fits;
     };
-    memo = λ x h. keep-memo j.run.cap j.run.stamp a _ w w' (slot_in w refl) c.own e x;
-    chained = keep-chained j.run.cap j.run.stamp a _ w w' (slot_in w refl) c.own k r.noded.pushing.fits (omega (arith, a_in, r.noded.pushing.fits)) e r.chained;
+    memo = λ x h. keep-memo run.cap run.stamp a _ w w' (slot_in w refl) c.own e x;
+    chained = keep-chained run.cap run.stamp a _ w w' (slot_in w refl) c.own k r.noded.pushing.fits (omega (arith, a_in, r.noded.pushing.fits)) e r.chained;
   }
 
-  pub root_in : (w₁ : List ℕ) (o k₁ : ℕ) → Holds (mk (nodes k w) c.variable.0 p q) j.run.cap w₁ o k₁ → o < memo_base
+  pub root_in : (w₁ : List ℕ) (o k₁ : ℕ) → Holds (mk (nodes k w) c.variable.0 p q) run.cap w₁ o k₁ → o < memo_base
   root_in w₁ o k₁ h =
-      let m : ℕ = j.run.n - suc c.variable.0 in
+      let m : ℕ = run.n - suc c.variable.0 in
       let t : Tree = fork (tree_of m (nodes k w) (suc c.variable.0) p) (tree_of m (nodes k w) (suc c.variable.0) q) in
-      let s : Walked j.run.n (nodes k w) (suc m) c.variable.0 t (nodes k₁ w₁, o) =
-      subst (λ z. Walked j.run.n (nodes k w) (suc m) c.variable.0 t z) h.is
-      (mk-sound j.run.n (nodes k w) r.noded.good (j.run.n - suc c.variable.0) c.variable.0 p q (omega (arith, r.noded.level)) r.noded.low r.noded.high) in
+      let s : Walked run.n (nodes k w) (suc m) c.variable.0 t (nodes k₁ w₁, o) =
+      subst (λ z. Walked run.n (nodes k w) (suc m) c.variable.0 t z) h.is
+      (mk-sound run.n (nodes k w) r.noded.good (run.n - suc c.variable.0) c.variable.0 p q (omega (arith, r.noded.level)) r.noded.low r.noded.high) in
       omega (arith, s.stands.lies, length-nodes k₁ w₁, h.fits, r.noded.pushing.few)
 
-  pub made_settled : (w₁ : List ℕ) (o k₁ : ℕ) → Noded w w₁ j.run.cap k c.variable.0 p q o k₁ → length w₁ ≡ length w
-      → (w' : List ℕ) → w' ≡ cond c.own (set w₁ (3 * j.run.cap + a) (word_of j.run.stamp o)) w₁ → Settled w w' j k c a p q o k₁
+  pub made_settled : (w₁ : List ℕ) (o k₁ : ℕ) → Noded w w₁ run.cap k c.variable.0 p q o k₁ → length w₁ ≡ length w
+      → (w' : List ℕ) → w' ≡ cond c.own (set w₁ (3 * run.cap + a) (word_of run.stamp o)) w₁ → Settled w w' run k c a p q o k₁
   made_settled w₁ o k₁ m n w' e = record {
     holds = record {
-      is = m.holds.is ∙ ap (λ (s : Table). (s, o)) (sym (keep-nodes j.run.cap j.run.stamp a _ w₁ w' (slot_in w₁ n) c.own k₁ m.holds.fits e));
+      is = m.holds.is ∙ ap (λ (s : Table). (s, o)) (sym (keep-nodes run.cap run.stamp a _ w₁ w' (slot_in w₁ n) c.own k₁ m.holds.fits e));
       fits = m.holds.fits;
     };
-    memo = λ x lt. elim (keep-memo j.run.cap j.run.stamp a (word_of j.run.stamp o) w₁ w' (slot_in w₁ n) c.own e x) [
-      | inl y ↦ inl (y ∙ m.memo (3 * j.run.cap + x) (omega arith) (omega arith))
+    memo = λ x lt. elim (keep-memo run.cap run.stamp a (word_of run.stamp o) w₁ w' (slot_in w₁ n) c.own e x) [
+      | inl y ↦ inl (y ∙ m.memo (3 * run.cap + x) (omega arith) (omega arith))
       | inr y ↦ inr y
     ];
-    chained = keep-chained j.run.cap j.run.stamp a _ w₁ w' (slot_in w₁ n) c.own k₁ m.holds.fits (omega (arith, a_in, r.noded.pushing.fits)) e m.chained;
+    chained = keep-chained run.cap run.stamp a _ w₁ w' (slot_in w₁ n) c.own k₁ m.holds.fits (omega (arith, a_in, r.noded.pushing.fits)) e m.chained;
   }

@@ -8,9 +8,10 @@ use Rattle.theory.specs.Words.{nodes}
 use Rattle.theory.proofs.Step.{Stands}
 use Rattle.cube.specs.Cube.{part}
 use Rattle.entries.specs.Entries.{says}
+use Rattle.put.specs.declared.Run.{Run}
 use Rattle.put.specs.declared.Job.{Job}
 use Rattle.put.specs.declared.Side.{Side}
-use Rattle.put.specs.declared.Side.TheVariants.{Low, High}
+use Rattle.put.specs.declared.Side.TheVariants.{Low, High, Both}
 use Rattle.put.specs.declared.Cut.{Cut}
 use Rattle.table.specs.declared.BddPointer.{BddPointer}
 use Rattle.pool.specs.Pool.{Noding, Holds}
@@ -31,14 +32,20 @@ off_low j l = odd (rest j l) && upper j l
 abbrev pub off_high : Job → ℕ → Bool
 off_high j l = odd (rest j l) && not (upper j l)
 
--- whether it is the side that is kept
+-- whether the side is kept, alone or with the other
 abbrev pub keeps : Side → Option Side → Bool
 keeps Low None = false
 keeps Low (Some Low) = true
 keeps Low (Some High) = false
+keeps Low (Some Both) = true
 keeps High None = false
 keeps High (Some Low) = false
 keeps High (Some High) = true
+keeps High (Some Both) = true
+keeps Both None = false
+keeps Both (Some Low) = false
+keeps Both (Some High) = false
+keeps Both (Some Both) = true
 
 -- node a's tree at level l with the rest of the clause set
 abbrev pub tree : Job → Table → ℕ → ℕ → Bool → Tree
@@ -102,23 +109,23 @@ Splits w j l k a off (Done r) = walk (nodes k w) l (tree j (nodes k w) l a off) 
 Splits w j l k a off (Split c) = Parted w j l k a off c
 
 -- ---- a node over two sides
-pub record Settling (w : List ℕ) (j : Job) (k : ℕ) (c : Cut) (a p q : ℕ) : Type 0 where
-  pub noded : Noding w j.run.n j.run.cap k c.variable.0 p q
-  pub long : 6 * j.run.cap ≤ length w
+pub record Settling (w : List ℕ) (run : Run) (k : ℕ) (c : Cut) (a p q : ℕ) : Type 0 where
+  pub noded : Noding w run.n run.cap k c.variable.0 p q
+  pub long : 6 * run.cap ≤ length w
   pub low : c.low.0 ≡ step (nodes k w) c.variable.0 false a
   pub high : c.high.0 ≡ step (nodes k w) c.variable.0 true a
   pub fits : Stands (nodes k w) c.variable.0 a
-  pub stamp : j.run.stamp < stamp_limit
-  pub chained : Chained w j.run.cap k
+  pub stamp : run.stamp < stamp_limit
+  pub chained : Chained w run.cap k
 
-pub record Settled (w w' : List ℕ) (j : Job) (k : ℕ) (c : Cut) (a p q r k' : ℕ) : Type 0 where
-  pub holds : Holds (mk (nodes k w) c.variable.0 p q) j.run.cap w' r k'
-  pub memo : (x : ℕ) → x < j.run.cap → (word w' j.run.cap x ≡ word w j.run.cap x) ⊎ ((c.own ≡ true) × (x ≡ a) × (word w' j.run.cap x ≡ word_of j.run.stamp r))
-  pub chained : Chained w' j.run.cap k'
+pub record Settled (w w' : List ℕ) (run : Run) (k : ℕ) (c : Cut) (a p q r k' : ℕ) : Type 0 where
+  pub holds : Holds (mk (nodes k w) c.variable.0 p q) run.cap w' r k'
+  pub memo : (x : ℕ) → x < run.cap → (word w' run.cap x ≡ word w run.cap x) ⊎ ((c.own ≡ true) × (x ≡ a) × (word w' run.cap x ≡ word_of run.stamp r))
+  pub chained : Chained w' run.cap k'
 
-abbrev pub Settles : List ℕ → List ℕ → Job → ℕ → Cut → ℕ → ℕ → ℕ → Option (BddPointer × ℕ) → Type 0
-Settles w w' j k c a p q (Some (r, k')) = Settled w w' j k c a p q r.0 k'
-Settles w w' j k c a p q None = j.run.cap < length (mk (nodes k w) c.variable.0 p q).0
+abbrev pub Settles : List ℕ → List ℕ → Run → ℕ → Cut → ℕ → ℕ → ℕ → Option (BddPointer × ℕ) → Type 0
+Settles w w' run k c a p q (Some (r, k')) = Settled w w' run k c a p q r.0 k'
+Settles w w' run k c a p q None = run.cap < length (mk (nodes k w) c.variable.0 p q).0
 
 -- ---- put
 pub record Put (w w' : List ℕ) (j : Job) (l k a : ℕ) (off : Bool) (r k' : ℕ) : Type 0 where

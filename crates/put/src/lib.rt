@@ -30,14 +30,16 @@ pub struct Job {
     pub form: Form,
 }
 
-// A side of a mark.
+// A side of a mark, or both.
 #[derive(Clone, Copy, PartialEq, Eq, Debug)]
 pub enum Side {
     Low,
     High,
+    Both,
 }
 
-// Where a node is split: the mark, its two sides, which of them the cube leaves as it is, and whether the mark is the node's own.
+// Where a node is split: the mark, its two sides, which of them the cube leaves as they are, and whether the mark is the node's own.
+// A clause leaves one at most; a cut of a caller's own may leave both.
 #[derive(Clone, Copy)]
 pub struct Cut {
     pub variable: BddVariable,
@@ -52,7 +54,7 @@ impl Cut {
     fn keeps(self, side: Side) -> bool
         ensures { result ≡ keeps side self.kept }
     {
-        self.kept == Some(side)
+        self.kept == Some(side) || self.kept == Some(Side::Both)
     }
 }
 
@@ -144,22 +146,22 @@ pub fn split(work: &[u32], job: Job, level: u16, count: u32, p: BddPointer, off:
 // The node over the two sides' answers, and the memo's word.
 pub fn settle(
     work: &mut [u32],
-    job: Job,
+    run: Run,
     count: u32,
     cut: Cut,
     p: BddPointer,
     low: BddPointer,
     high: BddPointer,
 ) -> Option<(BddPointer, u32)>
-    requires { Settling work.old job count cut p.0 low.0 high.0 }
-    ensures { Settles work.old work.new job count cut p.0 low.0 high.0 result }
+    requires { Settling work.old run count cut p.0 low.0 high.0 }
+    ensures { Settles work.old work.new run count cut p.0 low.0 high.0 result }
 {
     if low == cut.low && high == cut.high {
-        keep(work, job.run, cut.own, p, p);
+        keep(work, run, cut.own, p, p);
         return Some((p, count));
     }
-    let (r, more) = chain::make_node(work, job.run.n, job.run.cap, count, cut.variable, low, high)?;
-    keep(work, job.run, cut.own, p, r);
+    let (r, more) = chain::make_node(work, run.n, run.cap, count, cut.variable, low, high)?;
+    keep(work, run, cut.own, p, r);
     Some((r, more))
 }
 
@@ -197,5 +199,5 @@ pub fn branch(
     let level = cut.variable.0 + 1;
     let (low, lows) = put(work, job, level, count, cut.low, cut.keeps(Side::Low))?;
     let (high, highs) = put(work, job, level, lows, cut.high, cut.keeps(Side::High))?;
-    settle(work, job, highs, cut, p, low, high)
+    settle(work, job.run, highs, cut, p, low, high)
 }

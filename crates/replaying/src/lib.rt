@@ -7,7 +7,6 @@ ghost use Rattle.std.specs.Prelude.{◌≤◌, length};
 
 use calls::{Call, Counted, Lent};
 use lines::{LINE_END, Numbers, Word};
-use std::fmt;
 use telling::Text;
 
 // A count, and a slice to the front of a buffer.
@@ -69,7 +68,7 @@ fn line_agrees(line: &[u64]) -> bool {
 }
 
 // Each line that differs is told, then the calls of each entry and the totals.
-fn tell(bytes: &[u8], text: &mut Text) -> fmt::Result {
+fn tell(bytes: &[u8], text: &mut Text) {
     let mut line = [0u64; 1024];
     let mut counts = [0u64; 36];
     let mut calls: u64 = 0;
@@ -83,19 +82,19 @@ fn tell(bytes: &[u8], text: &mut Text) -> fmt::Result {
         }
         if !line_agrees(&line) {
             differ = differ.wrapping_add(1);
-            text.put_difference(calls, entry)?;
+            text.put_difference(calls, entry);
         }
     }
-    text.put_counts(&counts)?;
-    text.put_total(calls, differ)
+    text.put_counts(&counts);
+    text.put_total(calls, differ);
 }
 
-// Replays every line. How much of the output is written: what does not fit is let go, and so nothing fails.
+// Replays every line. How much of the output is written: what does not fit is let go.
 pub fn replay(bytes: &[u8], out: &mut [u8]) -> usize
     ensures { result ≤ length out.new }
 {
     let room = out.len();
     let mut text = Text::new(out);
-    let _ = tell(bytes, &mut text);
+    tell(bytes, &mut text);
     text.len().min(room)
 }

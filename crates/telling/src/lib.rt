@@ -53,23 +53,23 @@ impl<'a> Text<'a> {
         self.len
     }
 
-    pub fn put_difference(&mut self, line: u64, entry: u64) -> fmt::Result {
-        writeln!(self, "line {} differs: entry {}", Told(line), Told(entry))
+    // The three let go what no longer fits, so there is no failure to answer.
+    pub fn put_difference(&mut self, line: u64, entry: u64) {
+        let _ = writeln!(self, "line {} differs: entry {}", Told(line), Told(entry));
     }
 
-    pub fn put_counts(&mut self, counts: &[u64]) -> fmt::Result {
+    pub fn put_counts(&mut self, counts: &[u64]) {
         for (entry, calls) in counts.iter().enumerate() {
-            writeln!(self, "entry {entry}: {}", Told(*calls))?;
+            let _ = writeln!(self, "entry {entry}: {}", Told(*calls));
         }
-        Ok(())
     }
 
-    pub fn put_total(&mut self, calls: u64, differ: u64) -> fmt::Result {
-        writeln!(
+    pub fn put_total(&mut self, calls: u64, differ: u64) {
+        let _ = writeln!(
             self,
             "{} calls replayed, {} differ",
             Told(calls),
             Told(differ)
-        )
+        );
     }
 }
