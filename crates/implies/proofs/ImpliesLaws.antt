@@ -26,7 +26,7 @@ use Rattle.join.specs.declared.Job.{Job}
 use Rattle.join.specs.declared.Cut.{Cut}
 use Rattle.join.specs.Task.{Task, pair_tree, top}
 use Rattle.join.specs.Memo.{ways, Stores}
-use Rattle.join.specs.Joining.{task_of, joined_by, Operands, Splitting, Has, Parted, Standing}
+use Rattle.join.specs.Joining.{task_of, joined_by, Operands, Splitting, Has, Parted, Standing, Knows}
 use Rattle.join.proofs.JoinLaws.{Same, turned-back}
 use Rattle.join.proofs.PairLaws.{tree-deep, top_most, means-new}
 use Rattle.join.proofs.SplitLaws.{node-few}
@@ -36,6 +36,10 @@ use Rattle.implies.specs.Implying.{Empty, Ready, SaysEmpty, SaysNo}
 -- the descent over the same input
 same_input : (a b m : List ℕ) (j : Job) (a₁ b₁ : List ℕ) (j₁ : Job) → Same a b j a₁ b₁ j₁ → Ready a₁ b₁ m j₁ → Ready a b m j
 same_input a b m j a₁ b₁ j₁ e r = subst (λ i. Ready a b m i) e.2 (subst (λ w. Ready a w m j₁) e.1 (subst (λ w. Ready w b₁ m j₁) e.0 r))
+
+-- what the memory holds in the end, its words as they are then
+pub said_known : (a b a₁ b₁ m₁ : List ℕ) (j j₁ : Job) → Same a b j a₁ b₁ j₁ → Ready a₁ b₁ m₁ j₁ → (m' : List ℕ) → m' ≡ m₁ → Knows (task_of a b j) m' (constants j.n)
+said_known a b a₁ b₁ m₁ j j₁ e r m' em = rw em ((same_input a b m₁ j a₁ b₁ j₁ e r).known)
 
 module _ (a b m : List ℕ) (j : Job) (r : Ready a b m j) (l x y : ℕ) (stands : Standing a b j l x y) where
   abbrev T : Task

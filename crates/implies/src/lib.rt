@@ -5,7 +5,8 @@
 ghost use Rattle.std.specs.Prelude.{◌≡◌, length};
 ghost use Rattle.std.proofs.Props.{props};
 ghost use Rattle.join.specs.Trees.{tree_set};
-ghost use Rattle.join.specs.Joining.{Splitting, Splits, Standing, joined_by};
+ghost use Rattle.theory.specs.Table.{constants};
+ghost use Rattle.join.specs.Joining.{Splitting, Splits, Standing, Knows, task_of, joined_by};
 ghost use Rattle.implies.specs.Implying.{Ready, SaysEmpty, Asking, SaysNo};
 
 use join::{Job, Pair, Step};
@@ -51,19 +52,35 @@ impl Descent<'_, '_> {
     }
 }
 
-// No for every case, of two whole tables.
-pub fn tables_say_no(a: &[u32], b: &[u32], memo: &mut [u32], job: Job) -> bool
-    requires { Asking a.now b.now memo.old job }
-    ensures { SaysNo job.n (joined_by a.now b.now job) result }
+// No for every case below a pair. The memory is empty, or holds pairs of which that is so: what an earlier call left in it is not descended again.
+pub fn says_no(
+    a: &[u32],
+    b: &[u32],
+    memo: &mut [u32],
+    job: Job,
+    level: BddVariable,
+    pair: Pair,
+) -> bool
+    requires { Ready a.now b.now memo.old job × Standing a.now b.now job level.0 pair.left.0 pair.right.0 }
+    ensures empty { SaysEmpty a.now b.now job level.0 pair.left.0 pair.right.0 result }
+    ensures known { Knows (task_of a.now b.now job) memo.new (constants job.n) }
 {
-    memo.fill(0);
     let mut descent = Descent {
         left: a,
         right: b,
         job,
         memo,
     };
+    descent.says_no(level, pair)
+}
+
+// No for every case, of two whole tables.
+pub fn tables_say_no(a: &[u32], b: &[u32], memo: &mut [u32], job: Job) -> bool
+    requires { Asking a.now b.now memo.old job }
+    ensures { SaysNo job.n (joined_by a.now b.now job) result }
+{
+    memo.fill(0);
     let left = BddPointer(job.left.count - 1);
     let right = BddPointer(job.right.count - 1);
-    descent.says_no(BddVariable(0), Pair { left, right })
+    says_no(a, b, memo, job, BddVariable(0), Pair { left, right })
 }

@@ -106,7 +106,7 @@ pub record Parted (w : List ℕ) (j : Job) (l k a : ℕ) (off : Bool) (c : Cut) 
 
 abbrev pub Splits : List ℕ → Job → ℕ → ℕ → ℕ → Bool → Step → Type 0
 Splits w j l k a off (Done r) = walk (nodes k w) l (tree j (nodes k w) l a off) ≡ (nodes k w, r.0)
-Splits w j l k a off (Split c) = Parted w j l k a off c
+Splits w j l k a off (Split c) = Parted w j l k a off c × (keeps Both c.kept ≡ false)
 
 -- ---- a node over two sides
 pub record Settling (w : List ℕ) (run : Run) (k : ℕ) (c : Cut) (a p q : ℕ) : Type 0 where

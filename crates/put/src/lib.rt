@@ -4,7 +4,7 @@
 #![tactic(auto)]
 
 ghost use Rattle.std.specs.Prelude.{◌≡◌, cond, false, ◌+◌, ◌*◌, ◌<◌, ◌≤◌, length, get_or, set};
-ghost use Rattle.put.specs.declared.Side.TheVariants.{Low, High};
+ghost use Rattle.put.specs.declared.Side.TheVariants.{Low, High, Both};
 ghost use Rattle.put.specs.Put.{off_low, off_high, keeps, memo_base, stamp_limit, Recalls, Ready, Splits, Settling, Settles, Puts, Forking, word_of};
 
 use entries::Form;
@@ -69,7 +69,7 @@ pub enum Step {
 #[tactic(auto, using(theory::proofs::Masks::bit_shift))]
 pub fn left_out(job: Job, mark: BddVariable) -> Option<Side>
     requires { mark.0 < 64 }
-    ensures { (keeps Low result ≡ off_low job mark.0) × (keeps High result ≡ off_high job mark.0) }
+    ensures { (keeps Low result ≡ off_low job mark.0) × (keeps High result ≡ off_high job mark.0) × (keeps Both result ≡ false) }
 {
     if !valuation::has_bit(job.clause.fixed, mark) {
         return None;

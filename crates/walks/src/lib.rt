@@ -11,7 +11,7 @@ fn mixed(so_far: u64, word: u64) -> u64 {
 }
 
 // A number that each step changes: a clause by 1 and its words, the end by 0.
-fn noted(so_far: u64, step: Option<BddPartialValuation>) -> u64 {
+pub fn noted(so_far: u64, step: Option<BddPartialValuation>) -> u64 {
     match step {
         Some(v) => mixed(mixed(mixed(so_far, 1), v.fixed), v.values),
         None => mixed(so_far, 0),

@@ -25,8 +25,11 @@ pub left_out-requires : goal.left_out-requires
 left_out-requires c = omega (arith, next-lt _ _ _ _ _ c.requires c.if-rest-eq0.false, c.requires.marks)
 
 pub returns-then-next-variable : goal.returns-then-next-variable
-returns-then-next-variable c = on-parted _ _ _ _ _ _ _ c.if-off.false
-    (skips _ _ _ _ _ c.requires c.if-rest-eq0.false _ (omega (arith, c.if-next-variable.true, c.var_of-variable.ensures, mark-is _ _ _ _ _ c.requires)) c.left_out.ensures.0 c.left_out.ensures.1)
+returns-then-next-variable c = (
+  on-parted _ _ _ _ _ _ _ c.if-off.false
+      (skips _ _ _ _ _ c.requires c.if-rest-eq0.false _ (omega (arith, c.if-next-variable.true, c.var_of-variable.ensures, mark-is _ _ _ _ _ c.requires)) c.left_out.ensures.0 c.left_out.ensures.1),
+  c.left_out.ensures.2,
+)
 
 pub recall-requires : goal.recall-requires
 recall-requires c = (omega (arith, a_in _ _ _ _ _ c.requires, c.requires.fits, c.requires.long), c.requires.few)
@@ -45,6 +48,9 @@ pub high_link_of-requires : goal.high_link_of-requires
 high_link_of-requires c = omega (arith, a_in _ _ _ _ _ c.requires, c.requires.fits, c.requires.long)
 
 pub returns : goal.returns
-returns c = on-parted _ _ _ _ _ _ _ c.if-off.false
-    (owns _ _ _ _ _ c.requires c.if-rest-eq0.false _ _ _ _ (c.var_of-variable.ensures ∙ mark-is _ _ _ _ _ c.requires) (λ h. omega (arith, c.if-next-variable.false)) c.left_out-2.ensures.0 c.left_out-2.ensures.1
-    (c.low_link_of.ensures ∙ low-is _ _ _ _ _ c.requires) (c.high_link_of.ensures ∙ high_is _ _ _ _ _ c.requires))
+returns c = (
+  on-parted _ _ _ _ _ _ _ c.if-off.false
+      (owns _ _ _ _ _ c.requires c.if-rest-eq0.false _ _ _ _ (c.var_of-variable.ensures ∙ mark-is _ _ _ _ _ c.requires) (λ h. omega (arith, c.if-next-variable.false)) c.left_out-2.ensures.0 c.left_out-2.ensures.1
+      (c.low_link_of.ensures ∙ low-is _ _ _ _ _ c.requires) (c.high_link_of.ensures ∙ high_is _ _ _ _ _ c.requires)),
+  c.left_out-2.ensures.2,
+)
