@@ -64,7 +64,8 @@ pub fn at_most(number: u64, limit: usize) -> usize
     (number as usize).min(limit)
 }
 
-fn number_at(numbers: &[u64], i: usize) -> u64 {
+// The number at a place of a line, 0 behind its end.
+pub fn number_at(numbers: &[u64], i: usize) -> u64 {
     numbers.get(i).copied().unwrap_or(0)
 }
 
