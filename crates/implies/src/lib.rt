@@ -4,8 +4,8 @@
 
 ghost use Rattle.std.specs.Prelude.{◌≡◌, length};
 ghost use Rattle.std.proofs.Props.{props};
-ghost use Rattle.join.specs.Trees.{tree_set};
 ghost use Rattle.theory.specs.Table.{constants};
+ghost use Rattle.join.specs.Trees.{tree_set};
 ghost use Rattle.join.specs.Joining.{Splitting, Splits, Standing, Knows, task_of, joined_by};
 ghost use Rattle.implies.specs.Implying.{Ready, SaysEmpty, Asking, SaysNo};
 
@@ -52,7 +52,7 @@ impl Descent<'_, '_> {
     }
 }
 
-// No for every case below a pair. The memory is empty, or holds pairs of which that is so: what an earlier call left in it is not descended again.
+// No for every case below a pair. The memory holds only what is so: a pair that an earlier call left in it is not descended again.
 pub fn says_no(
     a: &[u32],
     b: &[u32],

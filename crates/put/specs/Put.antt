@@ -32,7 +32,7 @@ off_low j l = odd (rest j l) && upper j l
 abbrev pub off_high : Job → ℕ → Bool
 off_high j l = odd (rest j l) && not (upper j l)
 
--- whether the side is kept, alone or with the other
+-- whether the side is kept, alone or with the other; of Both, whether both are
 abbrev pub keeps : Side → Option Side → Bool
 keeps Low None = false
 keeps Low (Some Low) = true
