@@ -21,7 +21,7 @@ use Rattle.table.specs.Inspection.{SoundTable}
 use Rattle.pool.specs.Pool.{Answers, whole_table}
 use Rattle.pool.proofs.WholeLaws.{whole_leaves}
 use Rattle.carry.specs.declared.Way.{Way}
-use Rattle.carry.specs.Carry.{flip, carried, Known, Ready, Carries}
+use Rattle.carry.specs.Carry.{flip, carried, Known, Begun, Ready, Carries}
 use Rattle.carry.specs.Whole.{Placing, along, CanonLeft}
 
 -- an empty memo knows nothing
@@ -30,6 +30,21 @@ empty-memo memo memo₁ w s o count wide e i lt ne = absurd (ne (ap (λ (l : Lis
 
 pub length-emptied : (memo memo₁ : List ℕ) → memo₁ ≡ replicate (length memo) 0 → length memo₁ ≡ length memo
 length-emptied memo memo₁ e = ap length e ∙ length-replicate {A = ℕ} (length memo) 0
+
+-- what has begun with a memo, whatever it holds, is ready with it emptied
+pub emptied-ready : (bdd out memo memo₁ : List ℕ) (w : Way) (k m : ℕ) → Begun bdd out memo w k m → memo₁ ≡ replicate (length memo) 0 → Ready bdd out memo₁ w k m
+emptied-ready bdd out memo memo₁ w k m b empty = record {
+  begun = record {
+    marks = b.marks;
+    few = b.few;
+    long = b.long;
+    wide = omega (arith, b.wide, length-emptied memo memo₁ empty);
+    ordered = b.ordered;
+    pushing = b.pushing;
+    good = b.good;
+  };
+  known = empty-memo memo memo₁ w (nodes k bdd) (nodes m out) k b.wide empty;
+}
 
 -- a node carried into any good table is the walk of its whole function
 pub carried-whole : (w : Way) (s o : Table) → Good w.n o → Ordered w.n s → (root : ℕ) → root < length s
@@ -51,22 +66,22 @@ module _ (bdd out memo : List ℕ) (w : Way) (count root : ℕ) (t : SoundTable 
   root-lies = omega (arith, length-nodes count bdd, t.last, t.some)
 
   module _ (out₁ : List ℕ) (same_out : length out₁ ≡ length out) (front : nodes 2 out₁ ≡ constants n) where
-    pub begins : (memo₁ : List ℕ) → memo₁ ≡ replicate (length memo) 0 → Ready bdd out₁ memo₁ w count 2 × (root < count)
-    begins memo₁ empty = (
+    pub begins : Begun bdd out₁ memo w count 2 × (root < count)
+    begins = (
       record {
-        begun = record {
-          marks = t.marks;
-          few = t.few;
-          long = t.long;
-          wide = omega (arith, g.wide, length-emptied memo memo₁ empty);
-          ordered = t.ordered;
-          pushing = record { few = g.few; long = omega (arith, g.long); fits = g.some };
-          good = rw front (constants-good n);
-        };
-        known = empty-memo memo memo₁ w s (nodes 2 out₁) count g.wide empty;
+        marks = t.marks;
+        few = t.few;
+        long = t.long;
+        wide = g.wide;
+        ordered = t.ordered;
+        pushing = record { few = g.few; long = omega (arith, g.long); fits = g.some };
+        good = rw front (constants-good n);
       },
       omega (arith, t.last, t.some),
     )
+
+    pub begins-emptied : (memo₁ : List ℕ) → memo₁ ≡ replicate (length memo) 0 → Ready bdd out₁ memo₁ w count 2 × (root < count)
+    begins-emptied memo₁ empty = (emptied-ready bdd out₁ memo memo₁ w count 2 begins.0 empty, begins.1)
 
     is-meaning : tree_of n s 0 root ≡ meaning n s
     unfolding meaning

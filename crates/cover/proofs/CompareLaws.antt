@@ -22,8 +22,8 @@ use Rattle.refusal.specs.Verdict.{replied, gives}
 use Rattle.making.specs.Made.{Beyond}
 use Rattle.cube.proofs.Sizes.{adds}
 use Rattle.carry.specs.declared.Way.{Way}
-use Rattle.carry.specs.Carry.{flip, plain, carried, Ready, Carried}
-use Rattle.carry.proofs.WholeLaws.{empty-memo, length-emptied, carried-whole, same_function}
+use Rattle.carry.specs.Carry.{flip, plain, carried, Begun, Ready, Carried}
+use Rattle.carry.proofs.WholeLaws.{emptied-ready, carried-whole, same_function}
 use Rattle.cover.specs.Cover.{first_differing, cover_answer}
 use Rattle.table.specs.Inspection.{SoundTable}
 use Rattle.cover.specs.Compare.{Paired, Comparing, Brought}
@@ -102,22 +102,22 @@ module _ (n count : ℕ) (words : List ℕ) (root made : ℕ) (pool memo : List 
       start : Walked n (constants n) n 0 t (o, made - 1)
       start = subst (λ k. Walked n (constants n) n 0 t (nodes k pool₁, made - 1)) (sym is) walked
 
-      pub bringing : (memo₁ : List ℕ) → memo₁ ≡ replicate (length memo) 0 → Ready words pool₁ memo₁ way count held × (root < count)
-      bringing memo₁ empty = (
+      pub bringing : Begun words pool₁ memo way count held × (root < count)
+      bringing = (
         record {
-          begun = record {
-            marks = input.marks;
-            few = input.few;
-            long = input.long;
-            wide = omega (arith, g.wide, length-emptied memo memo₁ empty);
-            ordered = input.ordered;
-            pushing = record { few = omega (arith, g.few, input.few); long = omega (arith, g.long, made_some); fits = omega arith };
-            good = start.good;
-          };
-          known = empty-memo memo memo₁ way s o count g.wide empty;
+          marks = input.marks;
+          few = input.few;
+          long = input.long;
+          wide = g.wide;
+          ordered = input.ordered;
+          pushing = record { few = omega (arith, g.few, input.few); long = omega (arith, g.long, made_some); fits = omega arith };
+          good = start.good;
         },
         omega (arith, input.last, input.some),
       )
+
+      pub bringing-emptied : (memo₁ : List ℕ) → memo₁ ≡ replicate (length memo) 0 → Ready words pool₁ memo₁ way count held × (root < count)
+      bringing-emptied memo₁ empty = (emptied-ready words pool₁ memo memo₁ way count held bringing.0 empty, bringing.1)
 
       is-walk : carried way s o root ≡ walk o 0 u
       is-walk =
